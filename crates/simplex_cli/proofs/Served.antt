@@ -62,35 +62,13 @@ module _ {S L D P G C K : Type 0} (g : Ghosts S D P G C) (e : elector.Ghosts L S
   served_not Readable on now node first ReadFailed why given text more taken settled faults front =
       record { found = settled.found; are_found = settled.are_found; first = first; taken = taken; end = settled.end; opens = settled.opens; serves = inr (is_broken_off why faults, front) }
 
--- what a program comes to that is set up so, by what a run does that was set up by these values
-module _ {S L D P G C K : Type 0} (g : Ghosts S D P G C) (e : elector.Ghosts L S D P G C) (k : disk.Ghosts K) (formats : ℕ → Formats S D P G C)
-    (F : D → Type 0) (p : D → List ℕ) (w : Reply S D P G C → List ℕ) (q : List ℕ → Result (D × List ℕ) CodecError) (Readable : Artifact S D P G C → Type 0)
-    (on : K) (now : ℕ) (ReadFailed Untouched : Type 0) (ended : Result ⊤ Ending) (given old new : Option (List ℕ)) where
-  -- the run of a member of this index
-  abbrev Run_of : Config D → S → L → ℕ → Type 0
-  Run_of config scheme elect index = (io : Result ⊤ IoFault) × (ended ≡ ended_of io)
-      × ServesOver g k (formats (g.size scheme)) (setup_of g e config scheme elect index) F p w q Readable on now ReadFailed io given old new
-
-  -- it was not opened, or run by the index that the scheme has
-  abbrev pub Serves_by : Config D → S → L → Type 0
-  Serves_by config scheme elect = ((why : OpenFault) × (ended ≡ Err (ending.Open why)) × Untouched)
-      ⊎ ((io : Result ⊤ IoFault) × (index : ℕ) × (ended ≡ ended_of io) × (g.own scheme ≡ Some index)
-      × ServesOver g k (formats (g.size scheme)) (setup_of g e config scheme elect index) F p w q Readable on now ReadFailed io given old new)
-
-  comes : (config : Config D) (scheme : S) (elect : L) (index : ℕ) → g.own scheme ≡ Some index → Serves_by config scheme elect
-      → ComesTo g k (formats (g.size scheme)) (setup_of g e config scheme elect index) F p w q Readable on now ReadFailed Untouched ended given old new
-  comes config scheme elect index own (inl (why, is, same)) = inl (inr (why, is), same)
-  comes config scheme elect index own (inr (io, member, is, owns, serves)) =
-      let same : member ≡ index = some-is member index (sym owns ∙ own) in
-      let run : Run_of config scheme elect member = (io, is, serves) in
-      inr (subst (λ (n : ℕ). Run_of config scheme elect n) same run)
-
-  -- by what the values are
-  pub comes_by : (config other_config : Config D) (scheme other_scheme : S) (elect other_elect : L) (index : ℕ) → config ≡ other_config → scheme ≡ other_scheme → elect ≡ other_elect
-      → g.own other_scheme ≡ Some index → Serves_by config scheme elect
-      → ComesTo g k (formats (g.size other_scheme)) (setup_of g e other_config other_scheme other_elect index) F p w q Readable on now ReadFailed Untouched ended given old new
-  comes_by config other_config scheme other_scheme elect other_elect index settings committee rotation own serves =
-      comes other_config other_scheme other_elect index own
-      (subst (λ (x : L). Serves_by other_config other_scheme x) rotation
-      (subst (λ (x : S). Serves_by other_config x elect) committee
-      (subst (λ (x : Config D). Serves_by x scheme elect) settings serves)))
+-- what a program comes to whose record was not opened, or whose node ran by the index that its scheme has
+pub comes_as : (own : Option ℕ) (index : ℕ) (ended : Result ⊤ Ending) (Untouched : Type 0) (Run : Result ⊤ IoFault → ℕ → Type 0) → own ≡ Some index
+    → ((why : OpenFault) × (ended ≡ Err (ending.Open why)) × Untouched)
+    ⊎ ((io : Result ⊤ IoFault) × (member : ℕ) × (ended ≡ ended_of io) × (own ≡ Some member) × Run io member)
+    → (((ended ≡ Err ending.Memory) ⊎ ((why : OpenFault) × (ended ≡ Err (ending.Open why)))) × Untouched)
+    ⊎ ((io : Result ⊤ IoFault) × (ended ≡ ended_of io) × Run io index)
+comes_as own index ended Untouched Run mine (inl (why, is, same)) = inl (inr (why, is), same)
+comes_as own index ended Untouched Run mine (inr (io, member, is, owns, run)) =
+    let same : member ≡ index = some-is member index (sym owns ∙ mine) in
+    inr (io, is, subst (λ (n : ℕ). Run io n) same run)
