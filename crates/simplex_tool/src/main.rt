@@ -3,6 +3,7 @@
 
 ghost use Rattle.cli_tool.specs.Command.{IsAsked};
 
+use cli_toml::{path_behind, tell_settings};
 use cli_tool::{Call, Request, misused, parse_call, run_request, unopened, words_unread};
 use std::fs::File;
 use std::process::ExitCode;
@@ -36,8 +37,17 @@ fn answer_of_input(rt: &HostRuntime, call: Call<'_>) -> u8
     run_request(rt.alloc(), call, &mut input, &mut output, &mut faults)
 }
 
-/// Answers the call of these words.
-fn answer(rt: &HostRuntime, words: &[String]) -> u8 {
+/// Tells what the file of settings at this path says.
+fn tell_file(rt: &HostRuntime, path: &str) -> u8 {
+    let mut faults = rt.stderr();
+    match File::open(rt, path) {
+        Ok(mut file) => tell_settings(rt.alloc(), &mut file, &mut rt.stdout(), &mut faults),
+        Err(_) => unopened(&mut faults),
+    }
+}
+
+/// Answers the call of these words about messages and records.
+fn answer_call(rt: &HostRuntime, words: &[String]) -> u8 {
     let Some(call) = parse_call(words) else {
         return misused(&mut rt.stderr());
     };
@@ -45,6 +55,14 @@ fn answer(rt: &HostRuntime, words: &[String]) -> u8 {
         Request::Record { path } => answer_of_file(rt, call, path),
         Request::Check { path, .. } => answer_of_file(rt, call, path),
         _ => answer_of_input(rt, call),
+    }
+}
+
+/// Answers the call of these words.
+fn answer(rt: &HostRuntime, words: &[String]) -> u8 {
+    match path_behind("settings", words) {
+        Some(path) => tell_file(rt, path),
+        None => answer_call(rt, words),
     }
 }
 
