@@ -1,7 +1,8 @@
 //! Files of settings.
 
+use crate::light::{chain, one};
 use crate::texts::say_text;
-use cli_toml::{path_behind, read_file, tell_settings};
+use cli_toml::{MemberFile, path_behind, read_file, tell_settings};
 use std::alloc::Global;
 use test_words::{Say, Trouble, Words};
 
@@ -11,17 +12,19 @@ const MOST: usize = 20_000_000;
 /// The most words of a command.
 const MOST_WORDS: usize = 64;
 
-/// A text.
+/// A text, and the file of settings that was read last, if it was one.
 #[derive(Drop)]
 pub(crate) struct Files {
     text: Vec<u8>,
+    file: Option<MemberFile>,
 }
 
 impl Files {
-    /// No text.
+    /// No text, and no file.
     pub(crate) fn new(alloc: Global) -> Self {
         Files {
             text: Vec::new(alloc),
+            file: None,
         }
     }
 
@@ -58,7 +61,10 @@ impl Files {
         let mut faults = Vec::new(say.alloc);
         let read = read_file(say.alloc, &mut self.text.as_slice(), &mut faults);
         let status = match read {
-            Ok(_) => 0,
+            Ok(file) => {
+                self.file = Some(file);
+                0
+            }
             Err(status) => status,
         };
         self.text = Vec::new(say.alloc);
@@ -80,6 +86,25 @@ impl Files {
         say_text(&faults, say)?;
         self.text = told;
         Ok(())
+    }
+
+    /// The calls about certificates.
+    pub(crate) fn light(
+        &mut self,
+        name: &str,
+        words: &mut Words<'_>,
+        say: &mut Say,
+    ) -> Result<(), Trouble> {
+        let bytes = words.bytes(say.alloc)?;
+        words.end()?;
+        let Some(file) = &self.file else {
+            return Err(Trouble::Condition);
+        };
+        match name {
+            "certifies" => one(&file.settings.committee, &bytes, say),
+            "chain" => chain(&file.settings.committee, &bytes, say),
+            _ => Err(Trouble::Unreadable),
+        }
     }
 }
 

@@ -1,6 +1,6 @@
-//! Plays scripts on files of settings.
+//! Plays scripts on files of settings, and on what certificates certify for the members of such a file.
 //!
-//! A script has a text, empty behind `reset`.
+//! A script has a text, empty behind `reset`, and the file of settings that was read last, if it was one.
 //!
 //! | Call | Answer |
 //! |---|---|
@@ -9,11 +9,16 @@
 //! | `file` | `STATUS FAULTS` of reading the text as a file of settings; then it is empty |
 //! | `settings` | `STATUS OUTPUT FAULTS` of telling what it says; then it is what was told |
 //! | `ask NAME WORD ..` | the path that the words name behind NAME, or `-` |
+//! | `certifies BYTES` | what these bytes certify for the members of the file, or why nothing |
+//! | `chain BYTES` | the proposals that these certificates make final, or `PLACE WHY` of the first that breaks the chain |
 //!
-//! A text is said in quotes with `\n` for each newline; one of more than 1,000 bytes by its length and sum.
+//! A text is said in quotes with `\n` for each newline; one of more than 1,000 bytes by its length and sum. What a certificate
+//! certifies is `notarization PROPOSAL`, `nullification ROUND` or `finalization PROPOSAL`; why nothing `End`, `Invalid`, `TooLong`,
+//! `epoch`, `unsigned`, or for a chain also `-`: it is of another kind, or of no later view.
 #![tactic(auto)]
 
 mod files;
+mod light;
 mod texts;
 
 use crate::files::Files;
@@ -36,7 +41,7 @@ impl Layer for Files {
             "file" => self.file(words, say),
             "settings" => self.settings(words, say),
             "ask" => files::ask(words, say),
-            _ => Err(Trouble::Unreadable),
+            _ => self.light(name, words, say),
         }
     }
 }
