@@ -17,6 +17,7 @@ HELP = """usage: simplex_tool [--json] COMMAND, under the plain scheme over the 
   dump reports COUNT          reports on standard input, a line each
   dump record RECORD          the record in a file, a line for each entry
   check INDEX COUNT RECORD    the first entry that a lawful record of this member refuses
+  member FILE                 runs the member that a file of settings describes, as simplex node does
   settings FILE               what a file of settings says, each key with its value
   --help, --version
 """

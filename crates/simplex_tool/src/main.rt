@@ -4,6 +4,9 @@
 ghost use Rattle.cli_tool.specs.Command.{IsAsked};
 
 use cli_toml::{path_behind, tell_settings};
+mod member;
+
+use crate::member::run_file;
 use cli_tool::{Call, Request, misused, parse_call, run_request, unopened, words_unread};
 use std::fs::File;
 use std::process::ExitCode;
@@ -60,6 +63,9 @@ fn answer_call(rt: &HostRuntime, words: &[String]) -> u8 {
 
 /// Answers the call of these words.
 fn answer(rt: &HostRuntime, words: &[String]) -> u8 {
+    if let Some(path) = path_behind("member", words) {
+        return run_file(rt, path);
+    }
     match path_behind("settings", words) {
         Some(path) => tell_file(rt, path),
         None => answer_call(rt, words),
