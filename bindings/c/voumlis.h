@@ -27,6 +27,7 @@
 
 #include <stddef.h>
 #include <stdint.h>
+#include <string.h>
 
 #ifdef __cplusplus
 extern "C" {
@@ -44,7 +45,8 @@ enum voumlis_status {
     VOUMLIS_REFUSED = 7,  /* a lawful record refuses an entry */
     VOUMLIS_FOREIGN = 8,  /* an entry of a record is no artifact */
     VOUMLIS_DEVICE = 9,   /* the host could not be asked to change a record: the node can go on no more */
-    VOUMLIS_FAILED = 10   /* a call failed before: the node can go on no more */
+    VOUMLIS_FAILED = 10,  /* a call failed before: the node can go on no more */
+    VOUMLIS_SETTINGS = 11 /* the settings have a fault: `found->place` is its number */
 };
 
 /* Kinds of messages. */
@@ -76,6 +78,73 @@ enum voumlis_request {
     VOUMLIS_SYNC = 2   /* fix what stands there, so that a crash leaves it */
 };
 
+/* What can be wrong with settings: the first that applies is told. */
+enum voumlis_settings_fault {
+    VOUMLIS_NO_PARTICIPANTS = 1,
+    VOUMLIS_LEADER_TIMEOUT_ZERO = 2,
+    VOUMLIS_CERTIFICATION_NOT_ABOVE_LEADER = 3,
+    VOUMLIS_SKIP_NOT_ABOVE_CERTIFICATION = 4,
+    VOUMLIS_SKIP_NOT_ABOVE_RETRY = 5,
+    VOUMLIS_RETRY_ZERO = 6,
+    VOUMLIS_RETENTION_ZERO = 7,
+    VOUMLIS_TOO_MANY_PARTICIPANTS = 8, /* more than 65,535 */
+    VOUMLIS_TERM_LENGTH_ZERO = 9,
+    VOUMLIS_STALL_TIMEOUT_ZERO = 10, /* with terms of more than one view, or optimistic views */
+    VOUMLIS_BASE_TOO_LONG = 11,      /* more than 255 bytes */
+    VOUMLIS_SEED_TOO_LONG = 12,      /* more than 255 bytes */
+    VOUMLIS_NO_SUCH_MEMBER = 13
+};
+
+/* Whether views may be given up before their deadlines. */
+enum voumlis_skips {
+    VOUMLIS_SKIPS_DISABLED = 0,
+    VOUMLIS_SKIPS_AS_MEMBERS = 1, /* as many terms as there are members */
+    VOUMLIS_SKIPS_FIXED = 2       /* `skip_budget` terms */
+};
+
+/* To whom the payload of the view before is forwarded when a view is entered. */
+enum voumlis_forwarding {
+    VOUMLIS_FORWARDING_DISABLED = 0,
+    VOUMLIS_FORWARDING_SILENT_VOTERS = 1,
+    VOUMLIS_FORWARDING_SILENT_LEADER = 2
+};
+
+/* How a member is set up: `voumlis_settings_of` makes one, of which what is to be otherwise is changed. Durations are
+ * milliseconds. ALIKE at all members of a committee, and through all lives of a record: members, term_length, shuffled, epoch,
+ * stall_timeout, optimistic_views, genesis, base and seed; and member through all lives of its record. The rest may differ. */
+struct voumlis_settings {
+    size_t size;               /* of this struct, so that a later one may be longer */
+    uint32_t version;          /* VOUMLIS_SETTINGS_VERSION */
+    uint32_t members;          /* 1 to 65,535 */
+    uint32_t member;           /* below `members` */
+    uint32_t term_length;      /* views of a term */
+    uint32_t shuffled;         /* 1 where `seed` shuffles who leads, 0 where members lead by ascending index */
+    uint32_t skips;            /* enum voumlis_skips */
+    uint32_t forwarding;       /* enum voumlis_forwarding */
+    uint32_t historical_votes; /* 1 where votes behind a certificate and of skipped views are kept, else 0 */
+    uint64_t epoch;
+    uint64_t stall_timeout; /* 0 with terms of one view and no optimistic views alone */
+    uint64_t optimistic_views;
+    uint64_t leader_timeout;
+    uint64_t certification_timeout; /* above leader_timeout */
+    uint64_t retry_timeout;
+    uint64_t retention;    /* views kept before the last final one */
+    uint64_t skip_timeout; /* above certification_timeout and retry_timeout */
+    uint64_t skip_budget;
+    uint8_t genesis[32]; /* the payload that view 0 stands for */
+    const uint8_t *base; /* of what is signed, at most 255 bytes */
+    size_t base_length;
+    const uint8_t *seed; /* at most 255 bytes */
+    size_t seed_length;
+};
+#define VOUMLIS_SETTINGS_VERSION 1
+
+/* The views of a node. */
+struct voumlis_views {
+    uint64_t current;   /* the view that it is in */
+    uint64_t finalized; /* the last view that is final, or 0 */
+};
+
 /* The proved functions, which test no pointer. */
 uint32_t voumlis_proved_audit(uint16_t members, const uint8_t *reports, size_t reports_length, uint8_t *evidence,
                          size_t evidence_length, struct voumlis_found *found);
@@ -84,6 +153,12 @@ uint32_t voumlis_proved_first_refused(uint16_t members, uint64_t epoch, uint32_t
 uint32_t voumlis_proved_decode(uint32_t kind, uint32_t members, const uint8_t *bytes, size_t length, struct voumlis_found *found);
 uint32_t voumlis_proved_node_open(uint16_t members, uint16_t member, const uint8_t *record, size_t record_length,
                                   struct voumlis_node *node, struct voumlis_found *found);
+uint32_t voumlis_proved_node_open_with(const struct voumlis_settings *settings, const uint8_t *base, size_t base_length,
+                                       const uint8_t *seed, size_t seed_length, const uint8_t *record, size_t record_length,
+                                       struct voumlis_node *node, struct voumlis_found *found);
+uint32_t voumlis_proved_settings_check(const struct voumlis_settings *settings, const uint8_t *base, size_t base_length,
+                                       const uint8_t *seed, size_t seed_length, struct voumlis_found *found);
+uint32_t voumlis_proved_node_views(struct voumlis_node *node, struct voumlis_views *views);
 uint32_t voumlis_proved_node_step(struct voumlis_node *node, const uint8_t *events, size_t length, struct voumlis_found *found);
 uint32_t voumlis_proved_node_requests(struct voumlis_node *node, uint8_t *room, size_t length, struct voumlis_found *found);
 uint32_t voumlis_proved_node_replies(struct voumlis_node *node, uint8_t *room, size_t length, struct voumlis_found *found);
@@ -158,6 +233,75 @@ static inline uint32_t voumlis_node_open(uint16_t members, uint16_t member, cons
         !voumlis_apart(node, sizeof *node, record, record_length) || !voumlis_apart(node, sizeof *node, found, sizeof *found))
         return VOUMLIS_ARGUMENT;
     return voumlis_proved_node_open(members, member, record, record_length, node, found);
+}
+
+/* The settings of the program `simplex node`, as `member` of `members` is set up by it. */
+static inline struct voumlis_settings voumlis_settings_of(uint32_t members, uint32_t member) {
+    struct voumlis_settings settings;
+    memset(&settings, 0, sizeof settings);
+    settings.size = sizeof settings;
+    settings.version = VOUMLIS_SETTINGS_VERSION;
+    settings.members = members;
+    settings.member = member;
+    settings.term_length = 4;
+    settings.skips = VOUMLIS_SKIPS_AS_MEMBERS;
+    settings.historical_votes = 1;
+    settings.stall_timeout = 10000;
+    settings.optimistic_views = 2;
+    settings.leader_timeout = 1000;
+    settings.certification_timeout = 2000;
+    settings.retry_timeout = 5000;
+    settings.retention = 10;
+    settings.skip_timeout = 8000;
+    settings.base = (const uint8_t *)"simplex";
+    settings.base_length = 7;
+    return settings;
+}
+
+/* Whether settings of this header lie there, and the bytes that they point to; a length of 0 may come with any pointer. */
+static inline int voumlis_sets(const struct voumlis_settings *settings, const uint8_t **base, const uint8_t **seed,
+                               const struct voumlis_found *found) {
+    if (!voumlis_lies(settings, sizeof *settings) || (uintptr_t)settings % sizeof(uint64_t) != 0 ||
+        !voumlis_apart(settings, sizeof *settings, found, sizeof *found) || settings->size < sizeof *settings ||
+        settings->version != VOUMLIS_SETTINGS_VERSION)
+        return 0;
+    *base = settings->base;
+    *seed = settings->seed;
+    return voumlis_fits(base, settings->base_length, found) && voumlis_fits(seed, settings->seed_length, found);
+}
+
+/* Whether a node can be opened with these settings. DONE. SETTINGS: the place is the number of the first fault. ARGUMENT: of
+ * another size or version, or `skips`, `forwarding`, `shuffled` or `historical_votes` is none of its values. MEMORY. */
+static inline uint32_t voumlis_settings_check(const struct voumlis_settings *settings, struct voumlis_found *found) {
+    const uint8_t *base, *seed, *nothing = NULL;
+    if (!voumlis_fits(&nothing, 0, found) || !voumlis_sets(settings, &base, &seed, found))
+        return VOUMLIS_ARGUMENT;
+    return voumlis_proved_settings_check(settings, base, settings->base_length, seed, settings->seed_length, found);
+}
+
+/* Opens a node as `voumlis_node_open` does, but with these settings, which are read during the call alone. Answers as that,
+ * and as `voumlis_settings_check`. */
+static inline uint32_t voumlis_node_open_with(const struct voumlis_settings *settings, const uint8_t *record,
+                                              size_t record_length, struct voumlis_node *node,
+                                              struct voumlis_found *found) {
+    const uint8_t *base, *seed;
+    if (!voumlis_fits(&record, record_length, found) || !voumlis_holds(node, 0) ||
+        !voumlis_apart(node, sizeof *node, record, record_length) ||
+        !voumlis_apart(node, sizeof *node, found, sizeof *found) || !voumlis_sets(settings, &base, &seed, found) ||
+        !voumlis_apart(node, sizeof *node, settings, sizeof *settings) ||
+        !voumlis_apart(node, sizeof *node, base, settings->base_length) ||
+        !voumlis_apart(node, sizeof *node, seed, settings->seed_length))
+        return VOUMLIS_ARGUMENT;
+    return voumlis_proved_node_open_with(settings, base, settings->base_length, seed, settings->seed_length, record,
+                                         record_length, node, found);
+}
+
+/* Tells the views of a node. ARGUMENT: none is open there. */
+static inline uint32_t voumlis_node_views(struct voumlis_node *node, struct voumlis_views *views) {
+    if (!voumlis_holds(node, 1) || !voumlis_lies(views, sizeof *views) || (uintptr_t)views % sizeof(uint64_t) != 0 ||
+        !voumlis_apart(views, sizeof *views, node, sizeof *node))
+        return VOUMLIS_ARGUMENT;
+    return voumlis_proved_node_views(node, views);
 }
 
 /* Has a node answer events, one behind another (docs/FORMATS.md): the replies wait. BEFORE ANYTHING OF A REPLY IS CARRIED OUT

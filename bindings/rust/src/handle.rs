@@ -1,6 +1,8 @@
 //! A node as the proved library holds it between two calls.
 
 use crate::Found;
+use crate::node::Views;
+use crate::settings::{Numbers, Settings};
 use std::ptr;
 
 /// A node as the library holds it. The pointer is the library's, and keeps this on the thread that opened it.
@@ -12,9 +14,12 @@ pub(crate) struct Handle {
 }
 
 unsafe extern "C" {
-    fn voumlis_proved_node_open(
-        members: u16,
-        member: u16,
+    fn voumlis_proved_node_open_with(
+        numbers: *const Numbers,
+        base: *const u8,
+        base_length: usize,
+        seed: *const u8,
+        seed_length: usize,
         record: *const u8,
         length: usize,
         node: *mut Handle,
@@ -38,6 +43,7 @@ unsafe extern "C" {
         length: usize,
         found: *mut Found,
     ) -> u32;
+    fn voumlis_proved_node_views(node: *mut Handle, views: *mut Views) -> u32;
     fn voumlis_proved_node_close(node: *mut Handle) -> u32;
 }
 
@@ -51,22 +57,35 @@ impl Handle {
         place: ptr::null_mut(),
     };
 
-    pub(crate) fn open(
-        &mut self,
-        members: u16,
-        member: u16,
-        record: &[u8],
-        found: &mut Found,
-    ) -> u32 {
-        // SAFETY: a slice with its length, and a handle that is as the library left it, or none.
+    pub(crate) fn open(&mut self, settings: &Settings, record: &[u8], found: &mut Found) -> u32 {
+        let (numbers, base, seed) = settings.parts();
+        // SAFETY: numbers in the library's form, slices with their lengths, and a handle that is as the library left it, or none.
         unsafe {
-            voumlis_proved_node_open(members, member, record.as_ptr(), record.len(), self, found)
+            voumlis_proved_node_open_with(
+                &numbers,
+                base.as_ptr(),
+                base.len(),
+                seed.as_ptr(),
+                seed.len(),
+                record.as_ptr(),
+                record.len(),
+                self,
+                found,
+            )
         }
     }
 
     pub(crate) fn step(&mut self, events: &[u8], found: &mut Found) -> u32 {
         // SAFETY: as above.
         unsafe { voumlis_proved_node_step(self, events.as_ptr(), events.len(), found) }
+    }
+
+    /// The views of the node, or none where no node is open.
+    pub(crate) fn views(&mut self) -> Views {
+        let mut views = Views::default();
+        // SAFETY: a handle that is as the library left it, and views of this frame.
+        unsafe { voumlis_proved_node_views(self, &mut views) };
+        views
     }
 
     /// What the host is asked to do with the record.

@@ -7,10 +7,12 @@
 mod handle;
 mod heap;
 mod node;
+mod settings;
 pub mod wire;
 
 use handle::Handle;
-pub use node::{Ending, Node};
+pub use node::{Ending, Node, Views};
+pub use settings::{Forwarding, Settings, SettingsError, SettingsFault, Skips};
 
 /// What a call tells beside its status.
 #[repr(C)]

@@ -1,11 +1,15 @@
 //! A member's node over a record in a file.
 
+use crate::settings::{Settings, SettingsFault};
 use crate::wire::{Event, Reply};
 use crate::{Found, Handle};
 use std::fs::{File, TryLockError};
 use std::io::{Error, ErrorKind, Read};
 use std::os::unix::fs::FileExt;
 use std::path::Path;
+
+/// The greater of the two bytes that a record begins with.
+const LAST_GATE: u8 = 1;
 
 /// How a node ended.
 #[derive(Clone, Copy, Debug, PartialEq, Eq)]
@@ -14,7 +18,9 @@ pub enum Ending {
     Closed,
     /// Memory ran out.
     Memory,
-    /// The member isn't one of the committee.
+    /// No node can be opened with the settings.
+    Settings(SettingsFault),
+    /// The library was asked for what it doesn't know: it is another than these bindings are for.
     Argument,
     /// At this place of the bytes that were handed in last no event stands.
     NoEvent(u64),
@@ -26,6 +32,16 @@ pub enum Ending {
     Foreign(u64),
     /// The record's file failed.
     Device,
+}
+
+/// The views of a node.
+#[repr(C)]
+#[derive(Clone, Copy, Debug, Default, PartialEq, Eq)]
+pub struct Views {
+    /// The view that it is in.
+    pub current: u64,
+    /// The last view that is final, or 0.
+    pub finalized: u64,
 }
 
 /// A member's node over a record in a file, which stays on the thread that opened it. One that is let go is told nothing more: its
@@ -46,6 +62,7 @@ fn ending(status: u32, found: &Found) -> Ending {
         7 => Ending::Refused(found.place),
         8 => Ending::Foreign(found.place),
         9 | 10 => Ending::Device,
+        11 => SettingsFault::numbered(found.place).map_or(Ending::Argument, Ending::Settings),
         _ => Ending::Argument,
     }
 }
@@ -102,27 +119,42 @@ fn carry_out(file: &File, mut requests: &[u8]) -> Result<(), Error> {
 }
 
 impl Node {
-    /// Opens the record at this path, or makes an empty one, at moment 0, as `member` of `members` (the plain scheme over
-    /// the base `simplex`), and answers what is due at once.
+    /// Opens the record at this path, or makes an empty one, at moment 0, as `member` of `members` set up as by the program
+    /// `simplex node` (the plain scheme over the base `simplex`), and answers what is due at once.
     ///
     /// # Errors
     ///
-    /// [`ErrorKind::InvalidInput`] where there is no such member; those of the file, of which [`ErrorKind::WouldBlock`] says that
-    /// another node has it; and one that holds the [`Ending`] as text, where the record was not opened.
+    /// As of [`Node::open_with`].
     pub fn open(record: &Path, member: u16, members: u16) -> Result<(Node, Reply), Error> {
-        if member >= members {
-            return Err(ErrorKind::InvalidInput.into());
-        }
+        let settings = Settings::new(u32::from(member), u32::from(members));
+        Node::open_with(record, &settings)
+    }
+
+    /// The same with these settings.
+    ///
+    /// # Errors
+    ///
+    /// [`ErrorKind::InvalidInput`] that holds the [`SettingsError`](crate::SettingsError), where no node can be opened with the
+    /// settings: then no file was touched; those of the file, of which [`ErrorKind::WouldBlock`] says that another node has it;
+    /// [`ErrorKind::InvalidData`], where the file can be no record, for it begins with a byte that none begins with: it is left as it
+    /// is; and one that holds the [`Ending`] as text, where the record was not opened.
+    pub fn open_with(record: &Path, settings: &Settings) -> Result<(Node, Reply), Error> {
+        settings
+            .check()
+            .map_err(|fault| Error::new(ErrorKind::InvalidInput, fault))?;
         let mut file = opened(record)?;
         let mut stored = Vec::new();
         file.read_to_end(&mut stored)?;
+        if stored.first().is_some_and(|gate| *gate > LAST_GATE) {
+            return Err(ErrorKind::InvalidData.into());
+        }
         let mut node = Node {
             handle: Handle::NONE,
             file,
             ending: None,
         };
         let mut found = Found::default();
-        let status = node.handle.open(members, member, &stored, &mut found);
+        let status = node.handle.open(settings, &stored, &mut found);
         let reply = node
             .answered(status, &found)
             .and_then(|replies| one(&replies));
@@ -131,6 +163,11 @@ impl Node {
             Err(_) if node.ending.is_some() => Err(Error::other(format!("{:?}", node.close()))),
             Err(error) => Err(error),
         }
+    }
+
+    /// The view that the node is in, and the last that is final.
+    pub fn views(&mut self) -> Views {
+        self.handle.views()
     }
 
     /// Hands an event in, and answers the reply. By then the record has all that it says.

@@ -3,7 +3,7 @@
 use std::fs;
 use std::io::ErrorKind;
 use std::path::PathBuf;
-use voumlis::wire::{Action, Event, Reply};
+use voumlis::wire::{Action, Event, Refusal, Reply};
 use voumlis::{Ending, Node, Record, first_refused};
 
 /// A path at which there is no file yet.
@@ -13,19 +13,22 @@ fn place(name: &str) -> PathBuf {
     folder.join(name)
 }
 
-fn reply(refused: u8, actions: Vec<Action>) -> Reply {
+fn reply(refused: Option<Refusal>, actions: Vec<Action>) -> Reply {
     Reply { refused, actions }
 }
 
 #[test]
 fn the_sample_of_the_readme_is_answered() {
     let (mut node, first) = Node::open(&place("sample"), 0, 4).unwrap();
-    assert_eq!(first, reply(0, vec![Action::Wake(1000)]));
+    assert_eq!(first, reply(None, vec![Action::Wake(1000)]));
     assert_eq!(
         node.step(&Event::Moment(300)).unwrap(),
-        reply(0, vec![Action::Wake(1000)])
+        reply(None, vec![Action::Wake(1000)])
     );
-    assert_eq!(node.step(&Event::Moment(299)).unwrap(), reply(15, vec![]));
+    assert_eq!(
+        node.step(&Event::Moment(299)).unwrap(),
+        reply(Some(Refusal::MomentFell), vec![])
+    );
     assert_eq!(node.close(), Ending::Closed);
 }
 

@@ -11,6 +11,9 @@
 //! | `tool WORD ..` | the same of the program of tools; the input is the file that the words name, too |
 //! | `write COUNT` | what `write_audit` answers, then `LEFT OUTPUT` |
 //! | `serve INDEX COUNT` | `STATUS LEFT OUTPUT FAULTS` of a node's program over the disk; the output in digits |
+//! | `lines LINE ..` | how many bytes the input has with these lines behind it |
+//! | `file` | `STATUS FAULTS` of reading the input as a file of settings; then the input has no bytes |
+//! | `member` | `STATUS LEFT OUTPUT FAULTS` of the program of that file's member over the disk; the output in digits |
 //! | `disk BYTES`, `fuse CALLS`, `fail_at CALLS` | `ok`: such a disk; behind so many calls all or one of it fail |
 //! | `bytes` | what the disk holds |
 //! | `report OUTCOME`, `unread KIND` | `STATUS FAULTS` of `report`, and of `words_unread` after such an error |
@@ -31,10 +34,12 @@
 
 mod commands;
 mod fakes;
+mod member;
 mod serving_node;
 mod streams;
 mod texts;
 
+use crate::member::Filed;
 use crate::serving_node::Medium;
 use crate::streams::Streams;
 use std::alloc::Global;
@@ -47,6 +52,7 @@ use test_words::{Layer, Say, Trouble, Words, play};
 struct Cli {
     streams: Streams,
     medium: Medium,
+    filed: Filed,
 }
 
 impl Layer for Cli {
@@ -54,12 +60,16 @@ impl Layer for Cli {
         words.end()?;
         self.streams = Streams::new(alloc);
         self.medium = Medium::new(alloc);
+        self.filed = Filed::none();
         Ok(())
     }
 
     fn call(&mut self, name: &str, words: &mut Words<'_>, say: &mut Say) -> Result<(), Trouble> {
         match name {
             "append" => self.streams.append(words, say),
+            "lines" => self.streams.lines(words, say),
+            "file" => self.filed.read(&mut self.streams, words, say),
+            "member" => self.medium.member(&self.filed, &self.streams, words, say),
             "reader" => self.streams.set_reader(words, say),
             "output" => self.streams.set_output(words, say),
             "faults" => self.streams.set_faults(words, say),
@@ -100,6 +110,7 @@ fn main(rt: HostRuntime) -> ExitCode {
     let mut cli = Cli {
         streams: Streams::new(alloc),
         medium: Medium::new(alloc),
+        filed: Filed::none(),
     };
     ExitCode::from(play(alloc, &mut cli, rt.reader(), &mut io::writer(&rt)))
 }

@@ -1,5 +1,6 @@
 //! The disk of a script, and a node's program over it.
 
+use crate::member::Filed;
 use crate::streams::{Streams, count, short};
 use journal_single::MemoryDisk;
 use std::alloc::Global;
@@ -35,6 +36,22 @@ impl Medium {
             return Err(Trouble::Condition);
         };
         self.disk = Some(streams.serve(disk, index, count, say)?);
+        Ok(())
+    }
+
+    /// `member`.
+    pub(crate) fn member(
+        &mut self,
+        filed: &Filed,
+        streams: &Streams,
+        words: &mut Words<'_>,
+        say: &mut Say,
+    ) -> Result<(), Trouble> {
+        words.end()?;
+        let Some(disk) = self.disk.take() else {
+            return Err(Trouble::Condition);
+        };
+        self.disk = Some(filed.drive(streams, disk, say)?);
         Ok(())
     }
 

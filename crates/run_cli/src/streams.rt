@@ -77,9 +77,34 @@ impl Streams {
         say.ok()
     }
 
+    /// `lines WORD ..`: a line of the input for each word.
+    pub(crate) fn lines(&mut self, words: &mut Words<'_>, say: &mut Say) -> Result<(), Trouble> {
+        let spoken = commands::spoken(words, say.alloc)?;
+        for line in &spoken {
+            self.input.extend_from_slice(line.as_bytes())?;
+            self.input.push(b'\n')?;
+        }
+        say.number(self.input.len() as u64)
+    }
+
+    /// Lets the input have no bytes.
+    pub(crate) fn empty(&mut self, alloc: Global) {
+        self.input = Vec::new(alloc);
+    }
+
     /// The reader of a call.
-    fn read(&self) -> FakeReader<'_> {
+    pub(crate) fn read(&self) -> FakeReader<'_> {
         FakeReader::new(&self.input, self.reader)
+    }
+
+    /// How the output of a call behaves.
+    pub(crate) fn output(&self) -> Manner {
+        self.output
+    }
+
+    /// How the stream of faults of a call behaves.
+    pub(crate) fn faults(&self) -> Manner {
+        self.faults
     }
 
     /// `audit COUNT`.

@@ -4,3 +4,4 @@ pub mod Place
 pub mod Requests
 pub mod Serving
 pub mod Statuses
+pub mod Settings

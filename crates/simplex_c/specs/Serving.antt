@@ -6,6 +6,9 @@ use Rattle.simplex_member.specs.declared.fault.NodeFault.{NodeFault}
 use Rattle.simplex_member.specs.declared.fault.NodeFault.TheVariants as step
 use Rattle.simplex_member.specs.declared.fault.OpenFault.{OpenFault}
 use Rattle.simplex_member.specs.declared.fault.OpenFault.TheVariants as open_fault
+use Rattle.cli_settings.specs.Faults.{fault_number}
+use Rattle.simplex_c.specs.declared.settings.Unfit.{Unfit}
+use Rattle.simplex_c.specs.declared.settings.Unfit.TheVariants as unfit
 use Rattle.simplex_c.specs.declared.status.Status.{Status}
 use Rattle.simplex_c.specs.declared.status.Status.TheVariants as status
 
@@ -45,3 +48,13 @@ run_status (Err why) = ending_status why
 abbrev pub run_place : {A : Type 0} → Result A IoFault → Option ℕ
 run_place (Err (io.BadEvent place)) = Some place
 run_place x = None
+
+-- of settings that no node can be opened with; the number of their fault is the place
+abbrev pub unset_status : Unfit → Status
+unset_status unfit.Memory = status.Memory
+unset_status unfit.Number = status.Argument
+unset_status (unfit.Fault x) = status.Settings
+
+abbrev pub unset_place : Unfit → Option ℕ
+unset_place (unfit.Fault x) = Some (fault_number x)
+unset_place x = None

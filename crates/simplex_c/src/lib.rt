@@ -15,14 +15,19 @@ mod requests;
 mod room;
 mod serving;
 mod session;
+mod settings;
 mod status;
 mod told_answers;
+mod views;
 
 pub use found::Found;
 pub use handle::Handle;
 pub use node::{
-    voumlis_proved_node_close, voumlis_proved_node_open, voumlis_proved_node_replies,
-    voumlis_proved_node_requests, voumlis_proved_node_step,
+    voumlis_proved_node_close, voumlis_proved_node_open, voumlis_proved_node_open_with,
+    voumlis_proved_node_replies, voumlis_proved_node_requests, voumlis_proved_node_step,
+    voumlis_proved_node_views, voumlis_proved_settings_check,
 };
 pub use place::Place;
 pub use questions::{voumlis_proved_audit, voumlis_proved_decode, voumlis_proved_first_refused};
+pub use settings::SettingsNumbers;
+pub use views::Views;

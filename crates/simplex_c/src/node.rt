@@ -4,8 +4,12 @@ ghost use Rattle.std.specs.Prelude.{◌≡◌, ◌≢◌, ◌⊎◌, ◌≤◌};
 
 use crate::found::Found;
 use crate::handle::Handle;
-use crate::serving::{closed, opened, replies_taken, requests_taken, stepped};
+use crate::serving::{
+    closed, opened_with, replies_taken, requests_taken, stepped, unset, views_told,
+};
+use crate::settings::{SettingsNumbers, program_settings, settings_of};
 use crate::status::Status;
+use crate::views::Views;
 use std::alloc::Global;
 
 /// Opens a member's node at moment 0 over its record's bytes, which the host keeps; what that hands out waits as the first reply.
@@ -36,7 +40,74 @@ pub extern "C" fn voumlis_proved_node_open(
     if node.live != 0 {
         return Status::Argument.number();
     }
-    opened(alloc, members, member, stored, node, found).number()
+    let settings = program_settings(alloc, members, member);
+    opened_with(alloc, settings, stored, node, found).number()
+}
+
+/// Opens a member's node with these settings at moment 0 over its record's bytes, as above.
+///
+/// Answers as above; 2 also where a number of the settings is none that can stand there; and 11 with the number of the first fault of
+/// the settings as the place.
+#[unsafe(no_mangle)]
+pub extern "C" fn voumlis_proved_node_open_with(
+    alloc: Global,
+    numbers: &SettingsNumbers,
+    base: &[u8],
+    seed: &[u8],
+    stored: &[u8],
+    node: &mut Handle,
+    found: &mut Found,
+) -> u32
+    ensures occupied { node.old.live ≢ 0 → result ≡ 2 }
+    ensures opened { result ≡ 0 → node.new.live ≡ 1 }
+    ensures unopened { result ≢ 0 → node.new ≡ node.old }
+    ensures named { (result ≡ 7) ⊎ ((result ≡ 8) ⊎ (result ≡ 11)) → found.new.named ≡ 1 }
+    ensures unnamed { (result ≡ 0) ⊎ (result ≡ 9) → found.new.named ≡ 0 }
+    ensures statuses { result ≤ 11 }
+{
+    if node.live > 0 {
+        return Status::Argument.number();
+    }
+    let settings = settings_of(alloc, numbers, base, seed);
+    opened_with(alloc, settings, stored, node, found).number()
+}
+
+/// Whether a node can be opened with these settings.
+///
+/// Answers 0 where it can; 1 where memory ran out; 2 where a number is none that can stand there; and 11 with the number of the first
+/// fault as the place.
+#[unsafe(no_mangle)]
+pub extern "C" fn voumlis_proved_settings_check(
+    alloc: Global,
+    numbers: &SettingsNumbers,
+    base: &[u8],
+    seed: &[u8],
+    found: &mut Found,
+) -> u32
+    ensures named { result ≡ 11 → found.new.named ≡ 1 }
+    ensures unnamed { result ≢ 11 → found.new.named ≡ 0 }
+    ensures statuses { result ≤ 11 }
+{
+    match settings_of(alloc, numbers, base, seed) {
+        Ok(_) => {
+            found.tell(0, None);
+            Status::Done.number()
+        }
+        Err(unfit) => unset(unfit, found).number(),
+    }
+}
+
+/// Tells the view that a node is in, and the last that is final. Answers 0, or 2 where no node is open.
+#[unsafe(no_mangle)]
+pub extern "C" fn voumlis_proved_node_views(
+    alloc: Global,
+    node: &mut Handle,
+    views: &mut Views,
+) -> u32
+    ensures dead { node.old.live ≢ 1 → (result ≡ 2) × (node.new.live ≡ 0) }
+    ensures live { node.old.live ≡ 1 → (result ≡ 0) × (node.new.live ≡ 1) }
+{
+    views_told(alloc, node, views).number()
 }
 
 /// Has a node answer events, one behind another; the replies wait behind those that were not taken yet.

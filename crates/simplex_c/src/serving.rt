@@ -1,34 +1,37 @@
 //! Calls on a member's node.
 
 ghost use Rattle.std.specs.Prelude.{◌≡◌, ◌≢◌, ◌<◌, ◌⊎◌, Ok, Err};
+ghost use Rattle.cli_settings.specs.Checking.{IsGood};
 ghost use Rattle.simplex_c.specs.Statuses.{Names};
-ghost use Rattle.simplex_c.specs.Serving.{ending_status, run_place, run_status, unopened_place, unopened_status, unstepped_status};
-ghost use Rattle.simplex_c.specs.declared.status.Status.TheVariants.{Argument, Device, Done, Foreign, Invalid, Refused, Room};
+ghost use Rattle.simplex_c.specs.Serving.{ending_status, run_place, run_status, unopened_place, unopened_status, unset_place, unset_status, unstepped_status};
+ghost use Rattle.simplex_c.specs.declared.status.Status.TheVariants.{Argument, Device, Done, Foreign, Invalid, Refused, Room, Settings as BadSettings};
 
 use crate::found::Found;
 use crate::handle::Handle;
 use crate::requests::take_all;
 use crate::session::Session;
+use crate::settings::Unfit;
 use crate::status::Status;
+use crate::views::Views;
+use cli_settings::Settings;
 use simplex_member::{IoFault, NodeFault, OpenFault};
 use std::alloc::Global;
 
-/// Opens a member's node over its record, where none is open yet.
+/// Opens a member's node with these settings over its record, where none is open yet.
 pub(crate) fn opened(
     alloc: Global,
-    members: u16,
-    member: u16,
+    settings: &Settings,
     stored: &[u8],
     node: &mut Handle,
     found: &mut Found,
 ) -> Status
-    requires { member < members }
+    requires { IsGood settings.now }
     ensures opened { result ≡ Done → node.new.live ≡ 1 }
     ensures unopened { result ≢ Done → node.new ≡ node.old }
     ensures named { (result ≡ Refused) ⊎ (result ≡ Foreign) → found.new.named ≡ 1 }
     ensures unnamed { (result ≡ Done) ⊎ (result ≡ Device) → found.new.named ≡ 0 }
 {
-    match Session::open(alloc, members, member, stored) {
+    match Session::open(alloc, settings, stored) {
         Ok(session) => {
             found.tell(0, None);
             *node = Handle::of(session);
@@ -93,6 +96,61 @@ pub(crate) fn replies_taken(
     let taken = take_all(session.replies(), room);
     *node = Handle::of(session);
     fitted(taken, found)
+}
+
+/// Opens a member's node where its settings are some that it can be opened with.
+pub(crate) fn opened_with(
+    alloc: Global,
+    settings: Result<Settings, Unfit>,
+    stored: &[u8],
+    node: &mut Handle,
+    found: &mut Found,
+) -> Status
+    ensures opened { result ≡ Done → node.new.live ≡ 1 }
+    ensures unopened { result ≢ Done → node.new ≡ node.old }
+    ensures named { (result ≡ Refused) ⊎ ((result ≡ Foreign) ⊎ (result ≡ BadSettings)) → found.new.named ≡ 1 }
+    ensures unnamed { (result ≡ Done) ⊎ (result ≡ Device) → found.new.named ≡ 0 }
+{
+    match settings {
+        Ok(settings) => opened(alloc, &settings, stored, node, found),
+        Err(unfit) => unset(unfit, found),
+    }
+}
+
+/// Why settings are none that a node can be opened with, and the number of their fault as the place, if they have one.
+pub(crate) fn unset(unfit: Unfit, found: &mut Found) -> Status
+    ensures status { result ≡ unset_status unfit }
+    ensures place { Names found.new.named found.new.place (unset_place unfit) }
+{
+    match unfit {
+        Unfit::Memory => {
+            found.tell(0, None);
+            Status::Memory
+        }
+        Unfit::Number => {
+            found.tell(0, None);
+            Status::Argument
+        }
+        Unfit::Fault(fault) => {
+            found.tell(0, Some(u64::from(fault.number())));
+            Status::Settings
+        }
+    }
+}
+
+/// Tells the views of a node: the one that it is in as the place, and the last that is final as the length.
+pub(crate) fn views_told(alloc: Global, node: &mut Handle, views: &mut Views) -> Status
+    ensures dead { node.old.live ≢ 1 → (result ≡ Argument) × (node.new.live ≡ 0) }
+    ensures live { node.old.live ≡ 1 → (result ≡ Done) × (node.new.live ≡ 1) }
+{
+    let Some(session) = node.taken(alloc) else {
+        return Status::Argument;
+    };
+    let (current, finalized) = session.views();
+    *node = Handle::of(session);
+    views.current = current;
+    views.finalized = finalized;
+    Status::Done
 }
 
 /// Lets the node go.

@@ -1,6 +1,7 @@
 //! A member's node between two calls.
 
-ghost use Rattle.std.specs.Prelude.{◌≡◌, ◌<◌, ◌++◌, ℕ, None, Some, IfOk};
+ghost use Rattle.std.specs.Prelude.{◌≡◌, ◌++◌, ℕ, None, Some, IfOk};
+ghost use Rattle.cli_settings.specs.Checking.{IsGood};
 ghost use Rattle.simplex_member.specs.declared.action.Reply.{Reply};
 ghost use Rattle.simplex_member.specs.Setup.{setup_of};
 ghost use Rattle.node_steps.specs.Keeps.{AtOwn};
@@ -10,9 +11,9 @@ ghost use Rattle.node_wire.specs.Streaming.{EndsIn, spelled};
 
 use crate::disk::HostedDisk;
 use crate::requests::Requests;
+use cli_settings::Settings;
 use journal_single::Disk;
 use node_steps::Node;
-use simplex_cli::{config, elector, scheme};
 use simplex_member::{IoFault, OpenFault, Reply, Speaks};
 use simplex_node::{open_io, run_io};
 use simplex_types::PlainScheme;
@@ -53,19 +54,18 @@ impl Model for Session {
 }
 
 impl Session {
-    /// Opens a member's node over its record at moment 0, set up as the program's; what that hands out is the first reply.
+    /// Opens a member's node with these settings over its record at moment 0; what that hands out is the first reply.
     pub(crate) fn open(
         alloc: Global,
-        members: u16,
-        member: u16,
+        settings: &Settings,
         stored: &[u8],
     ) -> Result<Box<Session>, OpenFault>
-        requires { member < members }
+        requires { IsGood settings.now }
     {
         let Ok((disk, requests)) = hosted(alloc, stored) else {
             return Err(OpenFault::Memory);
         };
-        match opened(alloc, members, member, disk, requests) {
+        match opened(alloc, settings, disk, requests) {
             Ok(session) => boxed(alloc, session),
             Err(fault) => Err(fault),
         }
@@ -84,6 +84,14 @@ impl Session {
     /// The replies that were not taken yet.
     pub(crate) fn replies(&mut self) -> &mut Vec<u8> {
         &mut self.replies
+    }
+
+    /// The view that the node is in, and the last that is final.
+    pub(crate) fn views(&self) -> (u64, u64) {
+        (
+            self.node.current_view().get(),
+            self.node.last_finalized().get(),
+        )
     }
 }
 
@@ -108,15 +116,14 @@ fn boxed<T: Drop>(alloc: Global, value: T) -> Result<Box<T>, OpenFault>
 /// The session of a member over this disk.
 fn opened(
     alloc: Global,
-    members: u16,
-    member: u16,
+    settings: &Settings,
     disk: HostedDisk,
     requests: Requests,
 ) -> Result<Session, OpenFault>
-    requires { member < members }
+    requires { IsGood settings.now }
 {
     let mut replies = Vec::new(alloc);
-    match set_up(alloc, members, member, disk, &mut replies) {
+    match set_up(alloc, settings, disk, &mut replies) {
         Ok(node) => Ok(Session {
             node,
             requests,
@@ -126,23 +133,22 @@ fn opened(
     }
 }
 
-/// The node of a member over this disk, set up as the program's, and its first reply.
+/// The node of a member with these settings over this disk, and its first reply.
 fn set_up<K: Disk>(
     alloc: Global,
-    members: u16,
-    member: u16,
+    settings: &Settings,
     disk: K,
     replies: &mut Vec<u8>,
 ) -> Result<Node<PlainScheme, RoundRobinElector, Sha256Digest, K>, OpenFault>
-    requires { member < members }
+    requires { IsGood settings.now }
 {
-    let Ok(scheme) = scheme(alloc, member, members) else {
+    let Ok(scheme) = settings.scheme(alloc) else {
         return Err(OpenFault::Memory);
     };
-    let Ok(elector) = elector(alloc, members) else {
+    let Ok(elector) = settings.committee.elector(alloc) else {
         return Err(OpenFault::Memory);
     };
-    begin(alloc, config(), scheme, elector, disk, replies)
+    begin(alloc, settings.config(), scheme, elector, disk, replies)
 }
 
 /// Opens a member's record at moment 0, and spells what that hands out as a reply.

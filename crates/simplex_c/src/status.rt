@@ -28,6 +28,8 @@ pub(crate) enum Status {
     Device,
     /// A step failed before: the record has to be opened again.
     Failed,
+    /// The settings have a fault.
+    Settings,
 }
 
 impl Status {
@@ -48,6 +50,7 @@ impl Status {
             Status::Foreign => 8,
             Status::Device => 9,
             Status::Failed => 10,
+            Status::Settings => 11,
         }
     }
 }
