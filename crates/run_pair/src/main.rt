@@ -6,7 +6,8 @@
 //! - `open`: what was found, `opened ARTIFACTS`, or the fault; `append ARTIFACT`, `rewrite ARTIFACT ..`: `ok` or the
 //!   fault; `close`, `is_failed`, `generation`; `failures` of the first disk and of the second
 //! - in memory, while no journal is open, `bytes` of both disks; `fuse DISK CALLS`, `fail_at DISK CALLS`: DISK is 1 or 2;
-//!   `run` of `open`, `append ARTIFACT`, `rewrite COUNT ARTIFACT ..` and `crash`: the event that comes of each
+//!   `run` of `open`, `append ARTIFACT`, `rewrite COUNT ARTIFACT ..` and `crash`: the event that comes of each, with the
+//!   artifacts that it tells of
 //! - at any time `file read PATH`, `file write PATH BYTES` and `file remove PATH`
 #![tactic(auto)]
 

@@ -52,15 +52,31 @@ fn say_event<M: Write>(say: &mut Say, event: &PairEvent<M>) -> Result<(), Troubl
             say.text("OpenFailed ")?;
             say_fault(say, *fault)
         }
-        PairEvent::Appended(_) => say.text("Appended"),
-        PairEvent::AppendFailed(_, fault) => {
-            say.text("AppendFailed ")?;
+        PairEvent::Crashed => say.text("Crashed"),
+        PairEvent::Rewritten(_) | PairEvent::RewriteFailed(..) | PairEvent::RewriteNotOpen(_) =>
+            say_rewrite(say, event),
+        _ => say_append(say, event),
+    }
+}
+
+/// The same of an append, which tells its message.
+fn say_append<M: Write>(say: &mut Say, event: &PairEvent<M>) -> Result<(), Trouble> {
+    match event {
+        PairEvent::Appended(message) => say_one(say, "Appended ", message),
+        PairEvent::AppendFailed(message, fault) => {
+            say_one(say, "AppendFailed ", message)?;
+            say.gap()?;
             say_fault(say, *fault)
         }
-        PairEvent::AppendNotOpen(_) => say.text("AppendNotOpen"),
-        PairEvent::Crashed => say.text("Crashed"),
-        _ => say_rewrite(say, event),
+        PairEvent::AppendNotOpen(message) => say_one(say, "AppendNotOpen ", message),
+        _ => Err(Trouble::Unreadable),
     }
+}
+
+/// An event's name, and the message that it tells of.
+fn say_one<M: Write>(say: &mut Say, name: &str, message: &M) -> Result<(), Trouble> {
+    say.text(name)?;
+    say.value(message)
 }
 
 /// The same of a rewrite, which tells its list.
