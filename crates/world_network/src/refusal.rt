@@ -29,6 +29,8 @@ pub enum Refusal {
     TooLarge,
     /// No node can be set up so.
     Times,
+    /// The line's bytes aren't UTF-8.
+    NoText,
     /// Memory ran out.
     Memory,
 }
@@ -49,6 +51,7 @@ impl Refusal {
             Refusal::Zero => "the number has to be above 0",
             Refusal::TooLarge => "the number is above 1000000000",
             Refusal::Times => "no node can be set up with these times",
+            Refusal::NoText => "the line is not UTF-8",
             Refusal::Memory => "memory ran out",
         }
     }

@@ -25,6 +25,10 @@ pub struct Ways {
     pub withheld: bool,
     /// It votes on each side, of even and of odd index, for what that side votes for, and sends nothing else but proposals.
     pub two_faced: bool,
+    /// It asks others for views of all kinds.
+    pub asking: bool,
+    /// It sends certificates of views long past.
+    pub stale: bool,
 }
 
 impl Ways {
@@ -36,12 +40,15 @@ impl Ways {
         forged: false,
         withheld: false,
         two_faced: false,
+        asking: false,
+        stale: false,
     };
 
     /// Whether it is a lie at all.
     pub fn lies(&self) -> bool {
         let is_two = self.two_votes || self.two_proposals || self.two_faced;
-        is_two || self.silent || self.forged || self.withheld
+        let is_besides = self.asking || self.stale;
+        is_two || is_besides || self.silent || self.forged || self.withheld
     }
 
     /// Adds the way of this word.
@@ -53,6 +60,16 @@ impl Ways {
             "forged" => self.forged = true,
             "withheld" => self.withheld = true,
             "two-faced" => self.two_faced = true,
+            _ => return self.add_besides(word),
+        }
+        Ok(())
+    }
+
+    /// Adds the way of this word, of those that are sent besides.
+    fn add_besides(&mut self, word: &str) -> Result<(), Refusal> {
+        match word {
+            "asking" => self.asking = true,
+            "stale" => self.stale = true,
             _ => return Err(Refusal::UnknownWord),
         }
         Ok(())
@@ -358,7 +375,7 @@ impl Scenario {
 }
 
 /// How many ways of lying there are.
-const MOST_WAYS: u8 = 6;
+const MOST_WAYS: u8 = 8;
 
 /// What nodes are set up with where no line says otherwise.
 const TIMES: Times = Times {
