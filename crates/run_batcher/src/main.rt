@@ -1,9 +1,12 @@
 //! Plays scripts on the votes of one round.
+//!
+//! `run CALL ..` has `run` make a list of calls on a round: what is answered to each, with ` , ` between two.
 #![tactic(auto)]
 
 mod answers;
 mod desk;
 mod flood;
+mod lists;
 mod rounds;
 
 use crate::desk::Desk;

@@ -2,6 +2,7 @@
 
 use crate::answers::{kind_of, say_admission, say_batch, say_cast, say_fault};
 use crate::flood::pour;
+use crate::lists;
 use simplex_batcher::Round;
 use std::alloc::Global;
 use std::rc::Rc;
@@ -50,6 +51,7 @@ impl<S: Committee> Votes<S> {
             "try_construct" => self.try_construct(words, say),
             "try_forward_proposal" => self.try_forward_proposal(words, say),
             "flood" => self.flood(words, say),
+            "run" => lists::answer(&mut self.round, self.n, words, say),
             _ => self.ask(name, words, say),
         }
     }
