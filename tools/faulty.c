@@ -136,7 +136,8 @@ int flock(int file, int how)
 
 int statx(int folder, const char *path, int how, unsigned int what, struct statx *found)
 {
-    return fails_without_writing() ? failed(EIO) : NEXT(statx)(folder, path, how, what, found);
+    /* No signal interrupts it: its manual knows no EINTR. */
+    return strcmp(mode, "interrupted") && fails_without_writing() ? failed(EIO) : NEXT(statx)(folder, path, how, what, found);
 }
 
 ssize_t pread(int file, void *bytes, size_t size, off_t place)

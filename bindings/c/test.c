@@ -14,6 +14,43 @@ static void want(int line, uint32_t got, uint32_t wanted) {
 
 #define WANT(call, wanted) want(__LINE__, (call), (wanted))
 
+/* The certification of epoch 0, view 3: true; and a record of it. */
+static const uint8_t verdict[] = {2, 0, 3, 1};
+static const uint8_t record[] = {1, 0, 0, 0, 4, 2, 0, 3, 1, 0};
+
+/* What is no record as a crash leaves one isn't opened: text; an open gate with no whole entry; behind a closed gate an entry whose
+ * own gate is open, and two entries. A part of an entry is. */
+static void test_looks(void) {
+    struct voumlis_node node = VOUMLIS_NO_NODE;
+    struct voumlis_found found;
+    static const uint8_t text[] = {'#', ' ', 'V', 'o', 'u', 'm', 'l', 'i', 's'};
+    static const uint8_t lost[] = {1, 0, 0, 0, 9, 2};
+    static const uint8_t opened[] = {0, 0, 0, 0, 1, 7, 1};
+    static const uint8_t more[] = {0, 0, 0, 0, 1, 7, 0, 0};
+    static const uint8_t part[] = {0, 0, 0, 0, 4, 2, 0};
+    const struct {
+        const uint8_t *bytes;
+        size_t length;
+    } torn[] = {{lost, sizeof lost}, {opened, sizeof opened}, {more, sizeof more}};
+    size_t i;
+
+    for (i = 0; i < 2; i++) {
+        found.named = 7;
+        WANT(voumlis_node_open_cutting(4, 0, (uint32_t)i, text, sizeof text, &node, &found), VOUMLIS_NO_RECORD);
+        want(__LINE__, found.named, 0);
+    }
+    for (i = 0; i < sizeof torn / sizeof *torn; i++) {
+        WANT(voumlis_node_open(4, 0, torn[i].bytes, torn[i].length, &node, &found), VOUMLIS_TORN);
+        want(__LINE__, found.named, 1);
+        want(__LINE__, (uint32_t)found.place, 0);
+        want(__LINE__, node.live, 0);
+        WANT(voumlis_node_open_cutting(4, 0, 1, torn[i].bytes, torn[i].length, &node, &found), VOUMLIS_DONE);
+        WANT(voumlis_node_close(&node), VOUMLIS_DONE);
+    }
+    WANT(voumlis_node_open(4, 0, part, sizeof part, &node, &found), VOUMLIS_DONE);
+    WANT(voumlis_node_close(&node), VOUMLIS_DONE);
+}
+
 /* A node over an empty record: what it asks and answers, worked out by docs/FORMATS.md and the formats of the header. */
 static void test_node(void) {
     struct voumlis_node node = VOUMLIS_NO_NODE, none = VOUMLIS_NO_NODE;
@@ -29,6 +66,9 @@ static void test_node(void) {
     WANT(voumlis_node_open(4, 4, NULL, 0, &node, &found), VOUMLIS_ARGUMENT);
     WANT(voumlis_node_open(4, 0, (const uint8_t *)"\1\0\0\0\1\7", 7, &node, &found), VOUMLIS_FOREIGN);
     want(__LINE__, (uint32_t)found.place, 0);
+    WANT(voumlis_node_open(4, 0, record, sizeof record, &node, &found), VOUMLIS_REFUSED);
+    want(__LINE__, (uint32_t)found.place, 0);
+    test_looks();
     WANT(voumlis_node_open(4, 0, NULL, 0, &node, &found), VOUMLIS_DONE);
     WANT(voumlis_node_open(4, 0, NULL, 0, &node, &found), VOUMLIS_ARGUMENT);
     WANT(voumlis_node_requests(&node, room, sizeof begun - 1, &found), VOUMLIS_ROOM);
@@ -62,9 +102,6 @@ int main(void) {
         struct voumlis_found found;
     } both = {{0}};
     uint8_t room[8];
-    /* The certification of epoch 0, view 3: true; and a record of it. */
-    static const uint8_t verdict[] = {2, 0, 3, 1};
-    static const uint8_t record[] = {1, 0, 0, 0, 4, 2, 0, 3, 1, 0};
 
     found.named = 7;
     WANT(voumlis_decode(VOUMLIS_ARTIFACT, 4, verdict, 4, &found), VOUMLIS_DONE);

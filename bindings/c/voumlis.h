@@ -44,7 +44,9 @@ enum voumlis_status {
     VOUMLIS_REFUSED = 7,  /* a lawful record refuses an entry */
     VOUMLIS_FOREIGN = 8,  /* an entry of a record is no artifact */
     VOUMLIS_DEVICE = 9,   /* the host could not be asked to change a record: the node can go on no more */
-    VOUMLIS_FAILED = 10   /* a call failed before: the node can go on no more */
+    VOUMLIS_FAILED = 10,  /* a call failed before: the node can go on no more */
+    VOUMLIS_TORN = 11,    /* behind a record's entries stands what no crash leaves */
+    VOUMLIS_NO_RECORD = 12 /* the bytes begin as no record does */
 };
 
 /* Kinds of messages. */
@@ -82,8 +84,8 @@ uint32_t voumlis_proved_audit(uint16_t members, const uint8_t *reports, size_t r
 uint32_t voumlis_proved_first_refused(uint16_t members, uint64_t epoch, uint32_t term, uint16_t member, const uint8_t *record,
                                  size_t record_length, struct voumlis_found *found);
 uint32_t voumlis_proved_decode(uint32_t kind, uint32_t members, const uint8_t *bytes, size_t length, struct voumlis_found *found);
-uint32_t voumlis_proved_node_open(uint16_t members, uint16_t member, const uint8_t *record, size_t record_length,
-                                  struct voumlis_node *node, struct voumlis_found *found);
+uint32_t voumlis_proved_node_open(uint16_t members, uint16_t member, uint32_t cuts, const uint8_t *record,
+                                  size_t record_length, struct voumlis_node *node, struct voumlis_found *found);
 uint32_t voumlis_proved_node_step(struct voumlis_node *node, const uint8_t *events, size_t length, struct voumlis_found *found);
 uint32_t voumlis_proved_node_requests(struct voumlis_node *node, uint8_t *room, size_t length, struct voumlis_found *found);
 uint32_t voumlis_proved_node_replies(struct voumlis_node *node, uint8_t *room, size_t length, struct voumlis_found *found);
@@ -148,16 +150,26 @@ static inline int voumlis_holds(const struct voumlis_node *node, uint32_t live) 
            (live == 0 || node->place != NULL);
 }
 
-/* Opens the node of `member` of `members` (the plain scheme over the base "simplex", set up as the program `simplex node` is)
- * at moment 0, over the bytes of its record, of which a new one has none. DONE: `node` is open, and what that hands out waits
- * as a reply. REFUSED: the place is the artifact of the record that the rules refuse. FOREIGN: as above. MEMORY, DEVICE.
- * ARGUMENT: no such member, or a node is open there. But where it answers DONE, `node` is as it was. */
-static inline uint32_t voumlis_node_open(uint16_t members, uint16_t member, const uint8_t *record, size_t record_length,
-                                         struct voumlis_node *node, struct voumlis_found *found) {
+/* As below; where `cuts` isn't 0, what stands behind the last whole entry is cut, whatever it is, and TORN isn't answered. That may
+ * take votes that were sent: so it is for a person who knows what became of the record. */
+static inline uint32_t voumlis_node_open_cutting(uint16_t members, uint16_t member, uint32_t cuts, const uint8_t *record,
+                                                 size_t record_length, struct voumlis_node *node,
+                                                 struct voumlis_found *found) {
     if (!voumlis_fits(&record, record_length, found) || !voumlis_holds(node, 0) ||
         !voumlis_apart(node, sizeof *node, record, record_length) || !voumlis_apart(node, sizeof *node, found, sizeof *found))
         return VOUMLIS_ARGUMENT;
-    return voumlis_proved_node_open(members, member, record, record_length, node, found);
+    return voumlis_proved_node_open(members, member, cuts, record, record_length, node, found);
+}
+
+/* Opens the node of `member` of `members` (the plain scheme over the base "simplex", set up as the program `simplex node` is)
+ * at moment 0, over the bytes of its record, of which a new one has none. DONE: `node` is open, and what that hands out waits
+ * as a reply. The bytes are looked at first: NO_RECORD: they begin as no record does. FOREIGN: as above. REFUSED: the place is
+ * the artifact of the record that the rules refuse. TORN: the place is that of a gate behind the last whole entry that isn't
+ * closed, or behind which stands more than a crash leaves. MEMORY, DEVICE. ARGUMENT: no such member, or a node is open there.
+ * But where it answers DONE, `node` is as it was, and the record is to be left as it is. */
+static inline uint32_t voumlis_node_open(uint16_t members, uint16_t member, const uint8_t *record, size_t record_length,
+                                         struct voumlis_node *node, struct voumlis_found *found) {
+    return voumlis_node_open_cutting(members, member, 0, record, record_length, node, found);
 }
 
 /* Has a node answer events, one behind another (docs/FORMATS.md): the replies wait. BEFORE ANYTHING OF A REPLY IS CARRIED OUT

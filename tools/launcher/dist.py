@@ -38,14 +38,14 @@ def sum_of(file: Path) -> str:
     return hashlib.sha256(file.read_bytes()).hexdigest()
 
 
-def fitting(name: str) -> tuple[Path, str] | None:
-    """The proved program of `dist/`, and what is known of it, if it was made from this tree's code."""
-    file, manifest = PROVED / name, read(PROVED)
+def fitting(name: str, crate: str | None = None) -> tuple[Path, str] | None:
+    """The proved program of `dist/`, or the archive of this crate, and what is known of it, if it was made from this tree's code."""
+    file, manifest, crate = PROVED / name, read(PROVED), crate or name
     entry = manifest.get("files", {}).get(name, {})
-    if not file.exists() or entry.get("sha256") != sum_of(file) or entry.get("code") != sources.code(name):
+    if not file.exists() or entry.get("sha256") != sum_of(file) or entry.get("code") != sources.code(crate):
         return None
     commit = manifest.get("commit", "?")
-    if entry.get("sources") == sources.whole(name):
+    if entry.get("sources") == sources.whole(crate):
         return file, f"proved, from these sources (dist/, commit {commit})"
     return file, f"proved at commit {commit} from this code; its contracts or proofs have changed since"
 

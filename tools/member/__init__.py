@@ -18,6 +18,7 @@ Nothing here is taken from the node's code. Read in this order:
     refusals         the sixteen tests of an event
     deeds            what a point hands out
     acts             which acts may come next
+    doings           what acts do, and how much of it there can be behind one event
     member           steps and openings: whether a reply is allowed; what a crash may leave
     player           a node that does what is due, in an order that a seed picks
     words, judging   cases as text, and what the model says of them

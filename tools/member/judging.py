@@ -16,6 +16,8 @@ stand as words (see words.py) or as the hexadecimal digits of their spelling.
     event EVENT                   => REPLY, fault NUMBER, or crash
     stream HEX                    => HEX, and behind it bad PLACE or fault NUMBER where that ends early: the replies to the
                                      events that the bytes spell, one behind the other
+    live NOW HEX NOW HEX ..       => of each opening, with ` , ` between two: HEX, its first actions and the replies to the events that
+                                     the bytes behind NOW spell, and behind it fault NUMBER where a step failed; or as behind open
     current_view, last_finalized  => NUMBER
     record                        => the artifacts, as behind found
     bytes                         => HEX     closes the node that is open: the disk holds these bytes
@@ -36,6 +38,7 @@ from .record import bodies, first_refused, record, spelled_record
 from .refusals import refusal_of
 from .scheme import SCHEMES
 from .setup import FORWARDS, Setup
+from .values import Certificate, Certified, Report, Verdict, Vote
 from .voter import current, last_finalized
 
 NO_KEY, CONFIG, MOMENT_TOO_LATE, FOREIGN, CONTRADICTION, DEVICE, MEMORY = range(1, 8)
@@ -187,6 +190,56 @@ class Case:
         if replies.place < len(replies.data) or told != right:
             raise Disagreement(f"it ends behind {replies.place} bytes{right and ' with ' + right}")
 
+    def live(self, text, answer):
+        """Openings, one behind the other, each with its events: what each answers is what it would alone."""
+        given, told = text.split(), [] if answer == "-" else answer.split(" , ")
+        if len(given) % 2 or len(told) * 2 != len(given):
+            raise Disagreement(f"{len(told)} answers to {len(given) // 2} openings")
+        for now, events, life in zip(given[::2], given[1::2], told):
+            self.life(now, bytes.fromhex(events.replace("-", "")), life)
+        # Behind the call no node is open.
+        if self.h is not None:
+            self.hold(record(self.h))
+        self.has_failed = False
+
+    def life(self, now, data, answer):
+        if answer.startswith("fault"):
+            self.open(now, answer)
+            return
+        spelled, _, fault = answer.partition(" ")
+        size, members = self.setup.scheme.signature_size, self.setup.scheme.members
+        events, replies = Reader(data, size, members), Reader(bytes.fromhex(spelled), size, members)
+
+        def next_of(reader, read):
+            place = reader.place
+            read()
+            return reader.data[place : reader.place].hex()
+
+        first = next_of(replies, replies.reply)
+        if self.may_hold is not None:
+            self.hold(self.told_by(first))
+        self.open(now, first)
+        while replies.place < len(replies.data):
+            self.event(next_of(events, events.event), next_of(replies, replies.reply))
+        if fault:
+            self.event(next_of(events, events.event), fault)
+        elif events.place < len(events.data):
+            raise Disagreement(f"it ends behind {events.place} bytes of events")
+
+    def told_by(self, answer):
+        """What an opening finds, by the reports of its first actions: all but verdicts that are bad. A vote of a view is another's where
+        it names another."""
+        found = []
+        for action in words.reply_of(answer, self.setup.scheme).actions:
+            match action:
+                case Report(Vote(signer=signer)) if signer != self.setup.me:
+                    pass
+                case Report(Vote() | Certificate()):
+                    found.append(action.activity)
+                case Report(Certified(notarization)):
+                    found.append(Verdict(notarization.on.round, True))
+        return tuple(found)
+
     def cut(self, event):
         """The step ends somewhere, and hands nothing out."""
         h = self.h
@@ -207,6 +260,8 @@ class Case:
             self.event(rest, answer)
         elif name == "stream":
             self.stream(rest, answer)
+        elif name == "live":
+            self.live(rest, answer)
         elif name in ("current_view", "last_finalized") and self.h is not None:
             right = {"current_view": current, "last_finalized": last_finalized}[name](self.h)
             if answer != str(right):

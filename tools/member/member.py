@@ -15,6 +15,7 @@ from .acts import (
 from .asked import last_heard
 from .codec import Reader, Unreadable, whole
 from .deeds import deeds
+from .doings import done_too_much
 from .due import give_up_moments, may_latch, nullify_is_due
 from .history import Began, Forwards, Found, History, Opened, latest
 from .record import may_record, record, recorded_by
@@ -208,7 +209,11 @@ def finish(h, handed, actions):
     if left is None:
         lacking = [it for it in handed if it not in rest] or handed
         raise Disagreement(f"missing of what the event itself hands out: {in_words(lacking, h.setup)}")
-    return follow(h, left, last)
+    end = follow(h, left, last)
+    too_much = done_too_much(h, end)
+    if too_much is not None:
+        raise Disagreement(too_much)
+    return end
 
 
 def step(h, event, reply):

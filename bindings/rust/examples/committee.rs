@@ -41,7 +41,7 @@ impl Member {
     }
 
     fn carry_out(&mut self, reply: Reply, mail: &mut Mail) {
-        if reply.refused == 0 {
+        if reply.refused.is_none() {
             self.wake = None;
         }
         let me = self.index;

@@ -15,6 +15,7 @@ unsafe extern "C" {
     fn voumlis_proved_node_open(
         members: u16,
         member: u16,
+        cuts: u32,
         record: *const u8,
         length: usize,
         node: *mut Handle,
@@ -55,12 +56,21 @@ impl Handle {
         &mut self,
         members: u16,
         member: u16,
+        cuts: bool,
         record: &[u8],
         found: &mut Found,
     ) -> u32 {
         // SAFETY: a slice with its length, and a handle that is as the library left it, or none.
         unsafe {
-            voumlis_proved_node_open(members, member, record.as_ptr(), record.len(), self, found)
+            voumlis_proved_node_open(
+                members,
+                member,
+                u32::from(cuts),
+                record.as_ptr(),
+                record.len(),
+                self,
+                found,
+            )
         }
     }
 

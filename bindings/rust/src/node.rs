@@ -24,6 +24,10 @@ pub enum Ending {
     Refused(u64),
     /// At this byte of the record stands an entry that is no artifact.
     Foreign(u64),
+    /// The gate at this byte of the record, behind its last whole entry, isn't closed, or more stands behind it than a crash leaves.
+    Torn(u64),
+    /// The file isn't empty, and begins as no record does.
+    NoRecord,
     /// The record's file failed.
     Device,
 }
@@ -46,6 +50,8 @@ fn ending(status: u32, found: &Found) -> Ending {
         7 => Ending::Refused(found.place),
         8 => Ending::Foreign(found.place),
         9 | 10 => Ending::Device,
+        11 => Ending::Torn(found.place),
+        12 => Ending::NoRecord,
         _ => Ending::Argument,
     }
 }
@@ -103,13 +109,33 @@ fn carry_out(file: &File, mut requests: &[u8]) -> Result<(), Error> {
 
 impl Node {
     /// Opens the record at this path, or makes an empty one, at moment 0, as `member` of `members` (the plain scheme over
-    /// the base `simplex`), and answers what is due at once.
+    /// the base `simplex`), and answers what is due at once. The file is looked at first: one that is no record of this member as a
+    /// crash may leave it is left as it is.
     ///
     /// # Errors
     ///
     /// [`ErrorKind::InvalidInput`] where there is no such member; those of the file, of which [`ErrorKind::WouldBlock`] says that
     /// another node has it; and one that holds the [`Ending`] as text, where the record was not opened.
     pub fn open(record: &Path, member: u16, members: u16) -> Result<(Node, Reply), Error> {
+        Node::open_over(record, member, members, false)
+    }
+
+    /// The same, where what stands behind the last whole entry is cut, whatever it is, in place of [`Ending::Torn`]. That may take
+    /// votes that were sent: so it is for a person who knows what became of the record.
+    ///
+    /// # Errors
+    ///
+    /// As of [`Node::open`].
+    pub fn open_cutting(record: &Path, member: u16, members: u16) -> Result<(Node, Reply), Error> {
+        Node::open_over(record, member, members, true)
+    }
+
+    fn open_over(
+        record: &Path,
+        member: u16,
+        members: u16,
+        cuts: bool,
+    ) -> Result<(Node, Reply), Error> {
         if member >= members {
             return Err(ErrorKind::InvalidInput.into());
         }
@@ -122,7 +148,7 @@ impl Node {
             ending: None,
         };
         let mut found = Found::default();
-        let status = node.handle.open(members, member, &stored, &mut found);
+        let status = node.handle.open(members, member, cuts, &stored, &mut found);
         let reply = node
             .answered(status, &found)
             .and_then(|replies| one(&replies));

@@ -149,11 +149,71 @@ pub enum Action {
     Wake(u64),
 }
 
+/// Why an event was not taken. Nothing of the node changed but for whom it blocks.
+#[derive(Clone, Copy, Debug, PartialEq, Eq)]
+#[repr(u8)]
+pub enum Refusal {
+    /// The sender is no member.
+    UnknownSender = 1,
+    /// The sender is this node.
+    OwnName,
+    /// The bytes aren't just one message of the channel.
+    NotDecoded,
+    /// A vote or a certificate of another epoch.
+    WrongEpoch,
+    /// It is of view 0, or asks for it.
+    ViewZero,
+    /// A view that isn't kept, or not listened to.
+    OutsideWindow,
+    /// A view without room for the ones behind it.
+    NoRoom,
+    /// A proposal whose parent isn't below its view.
+    ParentNotBelow,
+    /// A vote that another member signed than the one that sent it.
+    NotItsSigner,
+    /// A vote that contradicts a recorded one of its signer.
+    Contradiction,
+    /// A vote or a certificate of which one of its kind was taken.
+    Repeated,
+    /// A certificate that doesn't certify.
+    NotVerifying,
+    /// An answer to nothing that was asked, or that was taken back.
+    UnknownAnswer,
+    /// A second verdict on a view.
+    SecondVerdict,
+    /// A moment before the latest.
+    MomentFell,
+    /// A moment so late that no deadline behind it has a number.
+    MomentTooLate,
+}
+
+impl Refusal {
+    /// All, by their numbers from 1 on.
+    const ALL: [Refusal; 16] = [
+        Refusal::UnknownSender,
+        Refusal::OwnName,
+        Refusal::NotDecoded,
+        Refusal::WrongEpoch,
+        Refusal::ViewZero,
+        Refusal::OutsideWindow,
+        Refusal::NoRoom,
+        Refusal::ParentNotBelow,
+        Refusal::NotItsSigner,
+        Refusal::Contradiction,
+        Refusal::Repeated,
+        Refusal::NotVerifying,
+        Refusal::UnknownAnswer,
+        Refusal::SecondVerdict,
+        Refusal::MomentFell,
+        Refusal::MomentTooLate,
+    ];
+}
+
 /// What a node answers to an event.
 #[derive(Clone, Debug, PartialEq, Eq)]
 pub struct Reply {
-    /// Why the event was refused, as docs/FORMATS.md numbers it, or 0.
-    pub refused: u8,
+    /// Why the event was refused, if it was.
+    pub refused: Option<Refusal>,
     /// What to do, in this order.
     pub actions: Vec<Action>,
 }
@@ -237,6 +297,14 @@ impl Reader<'_> {
 
     fn index(&mut self) -> Option<u32> {
         self.number()?.try_into().ok()
+    }
+
+    /// Why an event was refused, if it was.
+    fn refused(&mut self) -> Option<Option<Refusal>> {
+        match self.byte()? {
+            0 => Some(None),
+            number => Refusal::ALL.get(usize::from(number) - 1).copied().map(Some),
+        }
     }
 
     fn truth(&mut self) -> Option<bool> {
@@ -347,7 +415,7 @@ impl Reply {
     /// The reply at the front of these bytes, and what is behind it; or nothing, where no whole reply stands there.
     pub fn read(bytes: &[u8]) -> Option<(Reply, &[u8])> {
         let mut reader = Reader(bytes);
-        let refused = reader.byte()?;
+        let refused = reader.refused()?;
         let count = reader.number()?;
         let actions = (0..count).map(|_| reader.action()).collect::<Option<_>>()?;
         Some((Reply { refused, actions }, reader.0))

@@ -3,7 +3,7 @@
 use std::fs;
 use std::io::ErrorKind;
 use std::path::PathBuf;
-use voumlis::wire::{Action, Event, Reply};
+use voumlis::wire::{Action, Event, Refusal, Reply};
 use voumlis::{Ending, Node, Record, first_refused};
 
 /// A path at which there is no file yet.
@@ -13,19 +13,22 @@ fn place(name: &str) -> PathBuf {
     folder.join(name)
 }
 
-fn reply(refused: u8, actions: Vec<Action>) -> Reply {
+fn reply(refused: Option<Refusal>, actions: Vec<Action>) -> Reply {
     Reply { refused, actions }
 }
 
 #[test]
 fn the_sample_of_the_readme_is_answered() {
     let (mut node, first) = Node::open(&place("sample"), 0, 4).unwrap();
-    assert_eq!(first, reply(0, vec![Action::Wake(1000)]));
+    assert_eq!(first, reply(None, vec![Action::Wake(1000)]));
     assert_eq!(
         node.step(&Event::Moment(300)).unwrap(),
-        reply(0, vec![Action::Wake(1000)])
+        reply(None, vec![Action::Wake(1000)])
     );
-    assert_eq!(node.step(&Event::Moment(299)).unwrap(), reply(15, vec![]));
+    assert_eq!(
+        node.step(&Event::Moment(299)).unwrap(),
+        reply(Some(Refusal::MomentFell), vec![])
+    );
     assert_eq!(node.close(), Ending::Closed);
 }
 
@@ -93,6 +96,10 @@ fn what_is_no_record_of_the_member_is_not_opened() {
             &[1, 0, 0, 0, 4, 2, 0, 3, 1, 0][..],
             Ending::Refused(0),
         ),
+        ("text", &b"# Voumlis"[..], Ending::NoRecord),
+        ("lost", &[1, 0, 0, 0, 9, 2][..], Ending::Torn(0)),
+        ("open", &[0, 0, 0, 0, 1, 7, 1][..], Ending::Torn(0)),
+        ("more", &[0, 0, 0, 0, 1, 7, 0, 0][..], Ending::Torn(0)),
     ] {
         let record = place(name);
         fs::write(&record, bytes).unwrap();
@@ -104,4 +111,27 @@ fn what_is_no_record_of_the_member_is_not_opened() {
         Node::open(&place("none"), 4, 4).unwrap_err().kind(),
         ErrorKind::InvalidInput
     );
+}
+
+#[test]
+fn what_no_crash_leaves_is_cut_where_that_is_asked() {
+    let record = place("cut");
+    fs::write(&record, [0, 0, 0, 0, 1, 7, 1]).unwrap();
+    let (node, _) = Node::open_cutting(&record, 0, 4).unwrap();
+    assert_eq!(node.close(), Ending::Closed);
+    assert_eq!(fs::read(&record).unwrap(), [0]);
+    fs::write(&record, "# Voumlis").unwrap();
+    let error = Node::open_cutting(&record, 0, 4).unwrap_err();
+    assert_eq!(error.to_string(), format!("{:?}", Ending::NoRecord));
+    assert_eq!(fs::read_to_string(&record).unwrap(), "# Voumlis");
+}
+
+#[test]
+fn what_a_crash_leaves_is_opened() {
+    let record = place("part");
+    // Behind a closed gate a part of an entry.
+    fs::write(&record, [0, 0, 0, 0, 4, 2, 0]).unwrap();
+    let (node, _) = Node::open(&record, 0, 4).unwrap();
+    assert_eq!(node.close(), Ending::Closed);
+    assert_eq!(fs::read(&record).unwrap(), [0]);
 }

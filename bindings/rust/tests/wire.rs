@@ -178,7 +178,7 @@ fn replies_are_read_as_the_rows_say() {
         } else {
             let value = format!(
                 r#""value":{{"refused":{},"actions":[{}]}}"#,
-                reply.refused,
+                reply.refused.map_or(0, |refusal| refusal as u8),
                 actions.join(",")
             );
             assert!(row.contains(&value), "{row}\n{value}");

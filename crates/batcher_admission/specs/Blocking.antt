@@ -19,10 +19,12 @@ module _ {S D P G C : Type 0} where
 
   -- the sender of the vote is blocked: it names another, or the vote offends the recorded one
   abbrev pub IsBlockedFor : ℕ → Option (Vote S D P G C) → (Vote S D P G C → Bool) → ℕ → Vote S D P G C → Type 0
-  IsBlockedFor members recorded in_full sender v = (sender ≢ vote_signer v) ⊎ ((sender ≡ vote_signer v) × (sender < members) × MatchOption recorded ⊥ (λ u. Offends (in_full u) u v))
+  IsBlockedFor members recorded in_full sender v = (sender ≢ vote_signer v)
+      ⊎ ((sender ≡ vote_signer v) × (sender < members) × MatchOption recorded ⊥ (λ u. Offends (in_full u) u v))
 
   -- the evidence against a member that hands in a vote of its own: where it contradicts one that is kept in full
-  abbrev pub evidence_against : (D → D → Bool) → ℕ → Option (Vote S D P G C) → (Vote S D P G C → Bool) → ℕ → Vote S D P G C → Option (Activity S D P G C)
+  abbrev pub evidence_against : (D → D → Bool) → ℕ → Option (Vote S D P G C) → (Vote S D P G C → Bool) → ℕ → Vote S D P G C
+      → Option (Activity S D P G C)
   evidence_against same members recorded in_full sender v =
       if (sender == vote_signer v) && nat_lt sender members
       then option_and_then (λ u. if in_full u then evidence same u v else None) recorded

@@ -36,15 +36,18 @@ module _ {G : Type 0} where
 
     -- Each was judged, and a certificate made where a quorum is left. A scheme that judges many at once was asked for a
     -- certificate of all before, and may give none of these.
-    pub record IsOneByOne (batchable : Bool) (may_decline : List (Attestation G) → Type 0) (attests : ℕ → G → Type 0) (Enumerates : Type 0) (needed : ℕ) (verified waiting : List (Attestation G)) (judged : Judged C) : Type 0 where
+    pub record IsOneByOne (batchable : Bool) (may_decline : List (Attestation G) → Type 0) (attests : ℕ → G → Type 0) (Enumerates : Type 0)
+        (needed : ℕ) (verified waiting : List (Attestation G)) (judged : Judged C) : Type 0 where
       pub fallback_is : judged.fallback ≡ batchable
       pub declined : batchable ≡ true → may_decline (verified ++ waiting)
       pub invalid_are : AreFailing attests waiting judged.invalid.items
       pub made : MatchOption judged.certificate
           (length (verified ++ without judged.invalid.items waiting) < needed)
-          (λ c. (needed ≤ length (verified ++ without judged.invalid.items waiting)) × IsWhole Enumerates (verified ++ without judged.invalid.items waiting) c)
+          (λ c. (needed ≤ length (verified ++ without judged.invalid.items waiting))
+          × IsWhole Enumerates (verified ++ without judged.invalid.items waiting) c)
 
     -- what comes of attestations that wait, beside those that are verified
-    abbrev pub IsJudged : Bool → (List (Attestation G) → Type 0) → (ℕ → G → Type 0) → Type 0 → ℕ → List (Attestation G) → List (Attestation G) → Judged C → Type 0
+    abbrev pub IsJudged : Bool → (List (Attestation G) → Type 0) → (ℕ → G → Type 0) → Type 0 → ℕ → List (Attestation G)
+        → List (Attestation G) → Judged C → Type 0
     IsJudged batchable may_decline attests Enumerates needed verified waiting judged =
         IsAtOnce batchable (verified ++ waiting) judged ⊎ IsOneByOne batchable may_decline attests Enumerates needed verified waiting judged

@@ -102,7 +102,8 @@ module _ {S D P G C : Type 0} where
         pub states : Statement D
         pub context_is : context s kind h ≡ Some states
         pub certificate_is : IfSome batch.certificate (λ c. IsCertificateOn s kind states c)
-        pub judged : IsJudged (g.certifies s.scheme states) g.lists s.batchable (g.may_decline s.scheme states) (λ i a. g.attests s.scheme i states a) g.enumerates s.needed
+        pub judged : IsJudged (g.certifies s.scheme states) g.lists s.batchable (g.may_decline s.scheme states)
+            (λ i a. g.attests s.scheme i states a) g.enumerates s.needed
             (map vote_attestation (verified same s kind h)) (map vote_attestation (waiting same s kind h)) (judged_of batch)
 
       -- what comes of a construction that is due

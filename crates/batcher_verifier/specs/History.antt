@@ -184,15 +184,18 @@ module _ {S D P G C : Type 0} where
     -- the votes of a kind that wait to be judged, the oldest first
     abbrev pub waiting : Setup S → Kind → History S D P G C → List (Vote S D P G C)
     waiting s kind [] = []
-    waiting s kind (Taken v ∷ h) = counting s kind (Taken v ∷ h) (if is_kind kind (vote_kind v) then waiting s kind h ++ v ∷ [] else waiting s kind h)
+    waiting s kind (Taken v ∷ h) =
+        counting s kind (Taken v ∷ h) (if is_kind kind (vote_kind v) then waiting s kind h ++ v ∷ [] else waiting s kind h)
     waiting s kind (Judged k failing ∷ h) = if is_kind kind k then [] else waiting s kind h
     waiting s kind (e ∷ h) = counting s kind (e ∷ h) (waiting s kind h)
 
     -- the votes of a kind that are known to attest: own ones, and those that were judged and did not fail
     abbrev pub verified : Setup S → Kind → History S D P G C → List (Vote S D P G C)
     verified s kind [] = []
-    verified s kind (Cast v ∷ h) = counting s kind (Cast v ∷ h) (if is_kind kind (vote_kind v) then verified s kind h ++ v ∷ [] else verified s kind h)
-    verified s kind (Judged k failing ∷ h) = if is_kind kind k then verified s kind h ++ filter (λ v. not (is_among failing (vote_signer v))) (waiting s kind h) else verified s kind h
+    verified s kind (Cast v ∷ h) =
+        counting s kind (Cast v ∷ h) (if is_kind kind (vote_kind v) then verified s kind h ++ v ∷ [] else verified s kind h)
+    verified s kind (Judged k failing ∷ h) =
+        if is_kind kind k then verified s kind h ++ filter (λ v. not (is_among failing (vote_signer v))) (waiting s kind h) else verified s kind h
     verified s kind (e ∷ h) = counting s kind (e ∷ h) (verified s kind h)
 
     -- all votes are for what the first is for

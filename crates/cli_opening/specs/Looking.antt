@@ -46,6 +46,16 @@ IsBarred index count bytes (barred.Unclosed place) =
 IsBarred index count bytes (barred.Behind place) =
     (artifacts : List Entry) × All IsEntry artifacts × IsFound [] bytes place (map entry_spelling artifacts) × IsTooMuch (drop place bytes)
 
+-- a cut behind the last whole entry doesn't mend it
+abbrev pub IsBeyondCut : Barred → Type 0
+IsBeyondCut barred.Memory = ⊤
+IsBeyondCut barred.Device = ⊤
+IsBeyondCut barred.NoRecord = ⊤
+IsBeyondCut (barred.Foreign place) = ⊤
+IsBeyondCut (barred.Unlawful position) = ⊤
+IsBeyondCut (barred.Unclosed place) = ⊥
+IsBeyondCut (barred.Behind place) = ⊥
+
 -- why a file is left that is so strange
 abbrev pub barred_of : Strange → Barred
 barred_of strange.Memory = barred.Memory

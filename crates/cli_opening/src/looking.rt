@@ -1,12 +1,12 @@
 //! What a record's bytes hold.
 
-ghost use Rattle.std.specs.Prelude.{◌≡◌, ◌≢◌, ◌<◌, [], All, IfErr, IfNone, IfOk, IfSome, OnOk, drop, false, map};
+ghost use Rattle.std.specs.Prelude.{◌≡◌, ◌≢◌, ◌<◌, [], All, IfErr, IfNone, IfOk, IfSome, OnOk, drop, false, map, true};
 ghost use Rattle.journal_single.specs.Disk.{counted};
 ghost use Rattle.journal_single.specs.Record.{IsFound};
 ghost use Rattle.journal_look.specs.Look.{BeginsLikeOne, IsStrange, IsTooMuch, IsUnclosed};
 ghost use Rattle.simplex_record.specs.Lawful.{IsLawful, IsRefusedAt};
 ghost use Rattle.cli_tool.specs.ToolAnswers.{IsEntry, attests_in, certifies_in, entry_spelling, owner_of};
-ghost use Rattle.cli_opening.specs.Looking.{IsBarred, IsFoundIn, barred_of};
+ghost use Rattle.cli_opening.specs.Looking.{IsBarred, IsBeyondCut, IsFoundIn, barred_of};
 ghost use Rattle.cli_opening.specs.declared.looking.Barred.TheVariants as barred;
 
 use crate::reaching::{Plain, highest_view, last_finalized};
@@ -82,8 +82,11 @@ pub fn look_over<K: Disk>(
     requires { index < count }
     ensures found { IfOk result (λ found. K.keeps → IsFoundIn index count cuts (K.seen disk.old) found) }
     ensures barred { IfErr result (λ why. K.keeps → IsBarred index count (K.seen disk.old) why) }
+    ensures cut { IfErr result (λ why. cuts ≡ true → IsBeyondCut why) }
     ensures untouched { K.keeps → K.calls disk.new ≡ K.calls disk.old }
     ensures device { IfErr result (λ why. why ≡ barred.Device → K.failed disk.new ≡ counted false (K.failed disk.old)) }
+    ensures no_fault { OnOk result (K.failed disk.new ≡ K.failed disk.old) }
+    ensures no_fault_of_others { IfErr result (λ why. why ≢ barred.Device → K.failed disk.new ≡ K.failed disk.old) }
 {
     match read_disk(alloc, disk) {
         Ok(bytes) => look_at(alloc, &bytes, index, count, cuts),
@@ -109,6 +112,7 @@ pub fn look_at(
     requires { index < count }
     ensures found { IfOk result (IsFoundIn index count cuts bytes.now) }
     ensures barred { IfErr result (IsBarred index count bytes.now) }
+    ensures cut { IfErr result (λ why. cuts ≡ true → IsBeyondCut why) }
     ensures not_device { IfErr result (λ why. why ≢ barred.Device) }
 {
     let entries = match found_in(alloc, bytes, cuts) {
@@ -135,6 +139,7 @@ fn found_in(alloc: Global, bytes: &[u8], cuts: bool) -> Result<Entries<Plain>, S
     ensures closed { IfOk result (λ entries. cuts ≡ false → ¬ IsUnclosed (drop entries.gate bytes.now)) }
     ensures left { IfOk result (λ entries. cuts ≡ false → ¬ IsTooMuch (drop entries.gate bytes.now)) }
     ensures strange { IfErr result (IsStrange IsEntry entry_spelling bytes.now) }
+    ensures cut { IfErr result (λ why. cuts ≡ true → IsBeyondCut (barred_of why)) }
 {
     match look(alloc, bytes) {
         Err(Strange::Unclosed(_) | Strange::Behind(_)) if cuts => all_in(alloc, bytes),
@@ -148,6 +153,7 @@ fn all_in(alloc: Global, bytes: &[u8]) -> Result<Entries<Plain>, Strange>
     ensures found { IfOk result (λ entries. IsFound [] bytes.now entries.gate (map entry_spelling entries.messages.items)) }
     ensures fitting { IfOk result (λ entries. All IsEntry entries.messages.items) }
     ensures strange { IfErr result (IsStrange IsEntry entry_spelling bytes.now) }
+    ensures cut { IfErr result (λ why. IsBeyondCut (barred_of why)) }
 {
     match read_entries(alloc, bytes) {
         Ok(entries) => Ok(entries),

@@ -35,6 +35,7 @@ none_of s good beside fault.StallTimeoutZero = beside fault.StallTimeoutZero (om
 none_of s good beside fault.BaseTooLong = beside fault.BaseTooLong (omega arith)
 none_of s good beside fault.SeedTooLong = beside fault.SeedTooLong (omega arith)
 none_of s good beside fault.NoSuchMember = beside fault.NoSuchMember (omega arith)
+none_of s good beside fault.TooManyOptimistic = beside fault.TooManyOptimistic (omega arith)
 
 pub good_of : (s : Settings) → ((x : ConfigFault) → ¬ configuring.Applies (config_of s) s.committee.members x) → IsGoodBeside s → IsGood s
 good_of s good beside = record {

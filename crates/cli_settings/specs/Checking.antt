@@ -27,6 +27,7 @@ module _ (s : Settings) where
   Applies fault.BaseTooLong = 255 < length s.committee.base.items
   Applies fault.SeedTooLong = HasLongSeed s.committee
   Applies fault.NoSuchMember = s.committee.members ≤ s.member
+  Applies fault.TooManyOptimistic = 1000 < s.committee.turns.optimistic_views
 
   -- it is the first that applies: none with a lower number does
   pub record IsFirst (f : SettingsFault) : Type 0 where

@@ -13,6 +13,7 @@ fault_number fault.StallTimeoutZero = 10
 fault_number fault.BaseTooLong = 11
 fault_number fault.SeedTooLong = 12
 fault_number fault.NoSuchMember = 13
+fault_number fault.TooManyOptimistic = 14
 
 -- its name
 abbrev pub fault_name : SettingsFault → List ℕ
@@ -29,3 +30,4 @@ fault_name fault.StallTimeoutZero = codes "StallTimeoutZero"
 fault_name fault.BaseTooLong = codes "BaseTooLong"
 fault_name fault.SeedTooLong = codes "SeedTooLong"
 fault_name fault.NoSuchMember = codes "NoSuchMember"
+fault_name fault.TooManyOptimistic = codes "TooManyOptimistic"

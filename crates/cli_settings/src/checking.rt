@@ -10,6 +10,9 @@ use voter_rules::config::check_config;
 /// The most bytes of a base, and of a seed.
 const MOST: usize = 255;
 
+/// The most views of a term that may be optimistic.
+const MOST_OPTIMISTIC: u64 = 1_000;
+
 impl Turns {
     /// Whether terms are of one view each, without optimism.
     fn is_rotating(&self) -> bool
@@ -67,6 +70,9 @@ impl Settings {
         }
         if self.member >= committee.members {
             return Err(SettingsFault::NoSuchMember);
+        }
+        if committee.turns.optimistic_views > MOST_OPTIMISTIC {
+            return Err(SettingsFault::TooManyOptimistic);
         }
         Ok(())
     }

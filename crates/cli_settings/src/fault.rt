@@ -20,6 +20,8 @@ pub enum SettingsFault {
     SeedTooLong,
     /// There is no such member.
     NoSuchMember,
+    /// More views of a term are optimistic than a node goes over in a step.
+    TooManyOptimistic,
 }
 
 impl SettingsFault {
@@ -34,6 +36,7 @@ impl SettingsFault {
             SettingsFault::BaseTooLong => 11,
             SettingsFault::SeedTooLong => 12,
             SettingsFault::NoSuchMember => 13,
+            SettingsFault::TooManyOptimistic => 14,
         }
     }
 
@@ -48,6 +51,7 @@ impl SettingsFault {
             SettingsFault::BaseTooLong => "BaseTooLong",
             SettingsFault::SeedTooLong => "SeedTooLong",
             SettingsFault::NoSuchMember => "NoSuchMember",
+            SettingsFault::TooManyOptimistic => "TooManyOptimistic",
         }
     }
 }

@@ -3,6 +3,8 @@
 ghost use Rattle.std.specs.Prelude.{◌≡◌, ◌↔◌, All, IsTrue};
 ghost use Rattle.journal_look.specs.Look.{HasMore, IsTooMuch, IsUnclosed};
 
+use journal_single::number_at;
+
 /// Whether all bytes are 0.
 fn are_zero(bytes: &[u8]) -> bool
     ensures { IsTrue result ↔ All (λ byte. byte ≡ 0) bytes.now }
@@ -24,10 +26,7 @@ fn has_more(bytes: &[u8]) -> bool
     if bytes.len() < 5 {
         return false;
     }
-    let size = bytes[0] as usize * 0x100_0000
-        + bytes[1] as usize * 0x1_0000
-        + bytes[2] as usize * 0x100
-        + bytes[3] as usize;
+    let size = number_at(bytes, 0) as usize;
     if size > bytes.len() - 5 {
         return false;
     }

@@ -19,7 +19,7 @@ use Rattle.journal_single.specs.Record.{Reads, IsWithOrWithout, IsReopened, IsFo
 use Rattle.journal_single.specs.History.{Begun, message_of, IsUnacknowledged, last_found, begun, IsFollowed, MayFind, MayRead, AtEachEvent, IsPastTheEnd, IsTrueOf, Finds, Leaves, Recalls, Remembers, IsAnswer, is_open, all_begun, disk_of, Stands}
 use Rattle.journal_single.specs.Moments.{started, weaker, at_last}
 use Rattle.journal_single.specs.Images.{end_short, only_synced, reads_front}
-use Rattle.journal_single.proofs.Reopened.{reopened_here}
+use Rattle.journal_single.specs.LookingLaws.{reopened_here}
 use Rattle.journal_single.specs.OneReading.{unique, spellings-one}
 use Rattle.journal_single.specs.Refusals.{entries_long, foreign_again, never_foreign}
 

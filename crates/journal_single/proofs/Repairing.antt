@@ -4,10 +4,8 @@ use Rattle.journal_single.specs.Disk.{Call, Wrote, CutTo, Synced, MayLeave, Leav
 use Rattle.journal_single.specs.Record.{Reads, IsAtRest, IsFound, IsFixed}
 use Rattle.journal_single.specs.Lists.{take_past, held_byte}
 use Rattle.journal_single.specs.Moments.{started, goes_on}
+use Rattle.journal_single.specs.LookingLaws.{reads_found}
 use Rattle.journal_single.specs.Images.{end_short, reads_front, reads_rest, cut_behind, gate_closes, first_gate, only_synced, fixed_only}
-
-pub reads_found : {bytes : List ℕ} {gate : ℕ} {bodies : List (List ℕ)} → IsFound [] bytes gate bodies → Reads bytes bodies
-reads_found f = record { front = f.left.front; end = f.rest; split = f.left.split; entries = f.left.entries; ended = f.ended; gate = f.left.gate }
 
 first_byte : (xs : List ℕ) → 0 < length xs → take 1 xs ≡ get_or xs 0 0 ∷ []
 first_byte [] some = absurd (omega (arith, some))

@@ -11,3 +11,5 @@ pub mod Images
 pub mod Finding
 pub mod Total
 pub mod Refusals
+pub mod Looking
+pub mod LookingLaws

@@ -1,8 +1,8 @@
 //! Reading the entries of a record.
 
-ghost use Rattle.std.specs.Prelude.{◌≡◌, ◌⊎◌, ◌↔◌, ◌+◌, ◌<◌, [], ℕ, length, take, drop, map, All, IfOk, IfErr, IfSome, IfNone, IsTrue};
+ghost use Rattle.std.specs.Prelude.{◌≡◌, ◌⊎◌, ◌↔◌, ◌+◌, ◌-◌, ◌<◌, ◌≤◌, ◌^◌, [], ℕ, length, get_or, take, drop, map, All, IfOk, IfErr, IfSome, IfNone, IsTrue};
 ghost use Rattle.types_codec.specs.Codec.{Readable};
-ghost use Rattle.journal_single.specs.Record.{HasEntry, IsEnd, IsFound, FitsBelow, IsForeign};
+ghost use Rattle.journal_single.specs.Record.{HasEntry, IsEnd, IsFound, FitsBelow, IsForeign, size};
 ghost use Rattle.journal_single.specs.declared.fault.JournalFault.TheVariants.{Foreign, Memory};
 
 use crate::fault::JournalFault;
@@ -28,6 +28,20 @@ fn is_open(gate: u8) -> bool
     gate == 1
 }
 
+/// The number that four bytes spell from this place on, most significant first.
+pub fn number_at(bytes: &[u8], at: usize) -> u32
+    requires within { at + 4 ≤ length bytes.now }
+    ensures number { result ≡ size (get_or bytes.now at 0) (get_or bytes.now (at + 1) 0) (get_or bytes.now (at + 2) 0) (get_or bytes.now (at + 3) 0) }
+    ensures greatest { result ≡ 2 ^ 32 - 1
+        → (get_or bytes.now at 0 ≡ 255) × (get_or bytes.now (at + 1) 0 ≡ 255) × (get_or bytes.now (at + 2) 0 ≡ 255) ×
+        (get_or bytes.now (at + 3) 0 ≡ 255) }
+{
+    bytes[at] as u32 * 0x100_0000
+        + bytes[at + 1] as u32 * 0x1_0000
+        + bytes[at + 2] as u32 * 0x100
+        + bytes[at + 3] as u32
+}
+
 /// The size of the body, where a whole open entry begins here.
 fn first_entry(bytes: &[u8]) -> Option<usize>
     ensures some { IfSome result (λ n. HasEntry bytes.now (take n (drop 5 bytes.now)) (drop n (drop 5 bytes.now))) }
@@ -40,10 +54,7 @@ fn first_entry(bytes: &[u8]) -> Option<usize>
     if !is_open(bytes[0]) {
         return None;
     }
-    let size = bytes[1] as usize * 0x100_0000
-        + bytes[2] as usize * 0x1_0000
-        + bytes[3] as usize * 0x100
-        + bytes[4] as usize;
+    let size = number_at(bytes, 1) as usize;
     if size >= bytes.len() - 5 {
         return None;
     }

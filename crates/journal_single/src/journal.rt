@@ -5,12 +5,13 @@ ghost use Rattle.types_codec.specs.Codec.{Readable};
 ghost use Rattle.journal_single.specs.declared.fault.JournalFault.TheVariants.{Device, Failed, Foreign, Memory, TooLong};
 ghost use Rattle.journal_single.specs.Disk.{MayLeave, LeavesOnly, Synced, counted};
 ghost use Rattle.journal_single.specs.Journal.{IsRecord, IsTooLong};
+ghost use Rattle.journal_single.specs.Looking.{HasFound, IsAtMostSynced, IsLeftAsItWas};
 ghost use Rattle.journal_single.specs.Record.{Spells, Reads, IsAtRest, IsForeign, IsWithOrWithout, IsReopened};
 
 use crate::disk::{Disk, DiskFault};
 use crate::entries::BOUND;
 use crate::fault::JournalFault;
-use crate::opening::open_disk;
+use crate::opening::{finish, read_record};
 use std::alloc::{AllocError, Global};
 use std::marker::{Model, PhantomData};
 use types_core::{EncodeSize, Read, Write};
@@ -78,18 +79,47 @@ impl<M: Read + EncodeSize + Drop, K: Disk> Journal<M, K> {
         ensures faults { IfErr result (λ refused. (refused.0 ≡ Device) ⊎ ((refused.0 ≡ Memory) ⊎ ((place : ℕ) × (refused.0 ≡ Foreign place)))) }
         ensures untouched { IfErr result (λ refused. refused.0 ≢ Device → K.keeps → K.calls refused.1 ≡ Synced (K.seen refused.1) ∷ K.calls disk) }
     {
+        match Self::look(alloc, disk) {
+            Ok((found, messages)) => match found.keep() {
+                Ok(journal) => Ok((journal, messages)),
+                Err((_, disk)) => Err((JournalFault::Device, disk)),
+            },
+            Err(refused) => Err(refused),
+        }
+    }
+
+    /// Looks at a disk as [`Journal::open`] does, and writes and cuts nothing: syncs it, and reads it.
+    /// Answers what was found with all messages of its record, so that they can be judged before it is
+    /// kept; or the fault with the disk.
+    ///
+    /// # Errors
+    ///
+    /// [`JournalFault::Device`], [`JournalFault::Memory`] and [`JournalFault::Foreign`].
+    pub fn look(alloc: Global, disk: K) -> Result<(Found<M, K>, Vec<M>), (JournalFault, K)>
+        ensures found { IfOk result (λ looked. K.keeps → HasFound M.spelling K.seen K.calls looked.0 looked.1.items) }
+        ensures readable { IfOk result (λ looked. All (Readable M.fits (M.within BOUND)) looked.1.items) }
+        ensures reading { IfOk result (λ looked. K.keeps → Reads (K.seen disk) (map M.spelling looked.1.items)) }
+        ensures untouched { IfOk result (λ looked. K.keeps → IsLeftAsItWas K.seen K.calls disk looked.0.disk) }
+        ensures untouched_by_others { IfErr result (λ refused. refused.0 ≢ Device → K.keeps → IsLeftAsItWas K.seen K.calls disk refused.1) }
+        ensures synced_at_most { IfErr result (λ refused. K.keeps → IsAtMostSynced (K.seen disk) (K.calls disk) (K.calls refused.1)) }
+        ensures device { IfErr result (λ refused. refused.0 ≡ Device → K.failed refused.1 ≡ counted false (K.failed disk)) }
+        ensures no_fault { IfOk result (λ looked. K.failed looked.0.disk ≡ K.failed disk) }
+        ensures no_fault_of_others { IfErr result (λ refused. refused.0 ≢ Device → K.failed refused.1 ≡ K.failed disk) }
+        ensures foreign { IfErr result (λ refused.
+            (place : ℕ) → refused.0 ≡ Foreign place → K.keeps → IsForeign [] (Readable M.fits (M.within BOUND)) M.spelling (K.seen disk) place) }
+        ensures faults { IfErr result (λ refused. (refused.0 ≡ Device) ⊎ ((refused.0 ≡ Memory) ⊎ ((place : ℕ) × (refused.0 ≡ Foreign place)))) }
+    {
         let mut disk = disk;
-        match open_disk(alloc, &mut disk) {
-            Ok(entries) => {
-                let gate = entries.gate as u64;
-                let journal = Journal {
+        match read_record(alloc, &mut disk) {
+            Ok((entries, size)) => {
+                let found = Found {
                     alloc,
                     disk,
-                    gate,
-                    failed: false,
+                    size: size as u64,
+                    gate: entries.gate as u64,
                     messages: PhantomData,
                 };
-                Ok((journal, entries.messages))
+                Ok((found, entries.messages))
             }
             Err(fault) => Err((fault, disk)),
         }
@@ -175,6 +205,85 @@ impl<M: Read + EncodeSize + Drop, K: Disk> Journal<M, K> {
                 Err(JournalFault::Device)
             }
         }
+    }
+}
+
+/// What an opening found on a disk, before anything is written or cut.
+#[derive(Drop)]
+pub struct Found<M: Read + EncodeSize, K: Disk> {
+    alloc: Global,
+    disk: K,
+    size: u64,
+    gate: u64,
+    messages: PhantomData<M>,
+}
+
+impl<M: Read + EncodeSize, K: Disk> Model for Found<M, K> {
+    ghost use Rattle.std.specs.Prelude.{◌^◌, ◌<◌, List};
+    ghost use Rattle.journal_single.specs.Looking.{Looked, HasFound};
+
+    ghost Value = { Looked K };
+
+    ghost view = { λ f. record { disk = f.disk; size = f.size; gate = f.gate } };
+
+    ghost invariant = { λ f. (f.gate < 2 ^ 63)
+        × (K.keeps → (messages : List M) × HasFound M.spelling K.seen K.calls (record { disk = f.disk; size = f.size; gate = f.gate }) messages) };
+}
+
+impl<M: Read + EncodeSize + Drop, K: Disk> Found<M, K> {
+    /// Makes the journal of what was found: cuts behind the record's last gate, and closes that gate.
+    ///
+    /// # Errors
+    ///
+    /// A call of the disk failed. With the disk.
+    pub fn keep(self) -> Result<Journal<M, K>, (DiskFault, K)>
+        ensures record { IfOk result (λ journal.
+            (messages : List M)
+            → K.keeps
+            → HasFound M.spelling K.seen K.calls self messages
+            → IsRecord M.spelling K.seen K.calls journal messages) }
+        ensures fresh { IfOk result (λ journal. journal.failed ≡ false) }
+
+        // After a crash at any moment of the call the disk reads as what was found.
+        ensures any_moment { IfOk result (λ journal.
+            (messages : List M)
+            → K.keeps
+            → HasFound M.spelling K.seen K.calls self messages
+            → LeavesOnly (K.calls self.disk) (K.calls journal.disk) (λ image. Reads image (map M.spelling messages))) }
+        ensures any_moment_of_a_fault { IfErr result (λ refused.
+            (messages : List M)
+            → K.keeps
+            → HasFound M.spelling K.seen K.calls self messages
+            → LeavesOnly (K.calls self.disk) (K.calls refused.1) (λ image. Reads image (map M.spelling messages))) }
+
+        ensures device { IfErr result (λ refused. K.failed refused.1 ≡ counted false (K.failed self.disk)) }
+        ensures no_fault { IfOk result (λ journal. K.failed journal.disk ≡ K.failed self.disk) }
+    {
+        let Found {
+            alloc,
+            disk,
+            size,
+            gate,
+            messages,
+        } = self;
+        let mut disk = disk;
+        match finish(&mut disk, gate, size == 0) {
+            Ok(()) => Ok(Journal {
+                alloc,
+                disk,
+                gate,
+                failed: false,
+                messages,
+            }),
+            Err(failed) => Err((failed, disk)),
+        }
+    }
+
+    /// Gives the disk back, as it was found.
+    pub fn close(self) -> K
+        ensures { result ≡ self.disk }
+    {
+        self.disk
     }
 }
 

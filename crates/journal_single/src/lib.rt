@@ -12,11 +12,11 @@ mod memory_disk;
 mod opening;
 
 pub use disk::{Disk, DiskFault};
-pub use entries::{BOUND, Entries, read_entries, read_entries_below};
+pub use entries::{BOUND, Entries, number_at, read_entries, read_entries_below};
 pub use fault::JournalFault;
 pub use file_disk::FileDisk;
 pub use history::{Crash, Event, History, Request, run};
-pub use journal::{Journal, spelled};
+pub use journal::{Found, Journal, spelled};
 pub use laws::a_disk_reads_as_one_record;
 pub use memory_disk::MemoryDisk;
 pub use opening::read_disk;

@@ -3,8 +3,9 @@
 ghost use Rattle.std.specs.Prelude.{◌≡◌, ◌≢◌, ◌+◌, ◌<◌, ◌≤◌, ◌^◌, List, ℕ, length, map, [], ◌∷◌, All, IfErr, IfOk, OnOk, OnErr, is_ok, IsErrOf, true, false, ◌⊎◌};
 ghost use Rattle.types_codec.specs.Codec.{Readable};
 ghost use Rattle.journal_single.specs.declared.fault.JournalFault.TheVariants.{Device, Foreign, Memory};
-ghost use Rattle.journal_single.specs.Disk.{MayLeave, LeavesOnly, Synced, counted};
-ghost use Rattle.journal_single.specs.Record.{Reads, IsForeign, IsFound, IsFixed, IsAtRest, IsReopened};
+ghost use Rattle.journal_single.specs.Disk.{LeavesOnly, Synced, counted};
+ghost use Rattle.journal_single.specs.Looking.{IsAtMostSynced};
+ghost use Rattle.journal_single.specs.Record.{Reads, IsForeign, IsFound, IsFixed, IsAtRest};
 
 use crate::disk::{Disk, DiskFault};
 use crate::entries::{BOUND, Entries, read_entries};
@@ -13,7 +14,7 @@ use std::alloc::Global;
 use types_core::Read;
 
 /// Cuts behind the last gate, and closes it.
-pub(crate) fn repair<K: Disk>(disk: &mut K, gate: u64) -> Result<(), DiskFault>
+fn repair<K: Disk>(disk: &mut K, gate: u64) -> Result<(), DiskFault>
     requires room { gate < 2 ^ 63 }
     requires found { K.keeps → (bodies : List (List ℕ)) × IsFound [] (K.seen disk.old) gate bodies }
     requires some { K.keeps → gate < length (K.seen disk.old) }
@@ -35,7 +36,7 @@ pub(crate) fn repair<K: Disk>(disk: &mut K, gate: u64) -> Result<(), DiskFault>
 }
 
 /// Writes the first gate of an empty disk.
-pub(crate) fn begin<K: Disk>(disk: &mut K) -> Result<(), DiskFault>
+fn begin<K: Disk>(disk: &mut K) -> Result<(), DiskFault>
     requires empty { K.keeps → K.seen disk.old ≡ [] }
     ensures ok { OnOk result (K.keeps → IsAtRest [] (K.seen disk.new) (K.calls disk.new) 0 []) }
     ensures any_moment { K.keeps
@@ -79,7 +80,7 @@ pub fn read_disk<K: Disk>(alloc: Global, disk: &mut K) -> Result<Vec<u8>, Journa
 }
 
 /// Closes the last gate, or writes the first one.
-fn finish<K: Disk>(disk: &mut K, gate: u64, is_empty: bool) -> Result<(), DiskFault>
+pub(crate) fn finish<K: Disk>(disk: &mut K, gate: u64, is_empty: bool) -> Result<(), DiskFault>
     requires room { gate < 2 ^ 63 }
     requires found { K.keeps → (bodies : List (List ℕ)) × IsFound [] (K.seen disk.old) gate bodies }
     requires some { K.keeps → is_empty ≡ false → gate < length (K.seen disk.old) }
@@ -105,29 +106,26 @@ fn finish<K: Disk>(disk: &mut K, gate: u64, is_empty: bool) -> Result<(), DiskFa
     }
 }
 
-/// Opens any disk. It may fail, or a crash may come, at any point.
-pub(crate) fn open_disk<M: Read + Drop, K: Disk>(
+/// Syncs a disk and reads its record, and asks no more of it. Answers how many bytes it holds, too.
+pub(crate) fn read_record<M: Read + Drop, K: Disk>(
     alloc: Global,
     disk: &mut K,
-) -> Result<Entries<M>, JournalFault>
-    ensures ok { IfOk result
-        (λ entries. K.keeps → IsAtRest [] (K.seen disk.new) (K.calls disk.new) entries.gate (map M.spelling entries.messages.items)) }
-    ensures fitting { IfOk result (λ entries. All (Readable M.fits (M.within BOUND)) entries.messages.items) }
-    ensures found { IfOk result
-        (λ entries. K.keeps → (before : List ℕ) × MayLeave (K.calls disk.old) before × Reads before (map M.spelling entries.messages.items)) }
-    ensures reading { IfOk result (λ entries. K.keeps → Reads (K.seen disk.old) (map M.spelling entries.messages.items)) }
-    // After a crash at any moment of the opening the disk reads as a record that a crash before it might have left.
-    ensures any_moment { K.keeps → LeavesOnly (K.calls disk.old) (K.calls disk.new) (IsReopened (K.calls disk.old)) }
+) -> Result<(Entries<M>, usize), JournalFault>
+    ensures found { IfOk result (λ read. K.keeps → IsFound [] (K.seen disk.old) read.0.gate (map M.spelling read.0.messages.items)) }
+    ensures fitting { IfOk result (λ read. All (Readable M.fits (M.within BOUND)) read.0.messages.items) }
+    ensures size { IfOk result (λ read. K.keeps → read.1 ≡ length (K.seen disk.old)) }
+    ensures room { IfOk result (λ read. read.0.gate < 2 ^ 63) }
+    ensures seen { OnOk result (K.keeps → K.seen disk.new ≡ K.seen disk.old) }
+    ensures fixed { OnOk result (K.keeps → K.calls disk.new ≡ Synced (K.seen disk.old) ∷ K.calls disk.old) }
+    ensures asked { OnErr result (K.keeps → IsAtMostSynced (K.seen disk.old) (K.calls disk.old) (K.calls disk.new)) }
+    ensures seen_of_others { IfErr result (λ fault. fault ≢ Device → K.keeps → K.seen disk.new ≡ K.seen disk.old) }
+    ensures fixed_of_others { IfErr result (λ fault. fault ≢ Device → K.keeps → K.calls disk.new ≡ Synced (K.seen disk.old) ∷ K.calls disk.old) }
     ensures device { IsErrOf result JournalFault.Device → K.failed disk.new ≡ counted false (K.failed disk.old) }
     ensures no_fault { OnOk result (K.failed disk.new ≡ K.failed disk.old) }
     ensures no_fault_of_others { IfErr result (λ fault. fault ≢ Device → K.failed disk.new ≡ K.failed disk.old) }
     ensures foreign { IfErr result (λ fault.
-        (place : ℕ) → fault ≡ Foreign place → K.keeps → IsForeign [] (Readable M.fits (M.within BOUND)) M.spelling (K.seen disk.new) place) }
-    ensures foreign_reading { IfErr result (λ fault.
         (place : ℕ) → fault ≡ Foreign place → K.keeps → IsForeign [] (Readable M.fits (M.within BOUND)) M.spelling (K.seen disk.old) place) }
     ensures faults { IfErr result (λ fault. (fault ≡ Device) ⊎ ((fault ≡ Memory) ⊎ ((place : ℕ) × (fault ≡ Foreign place)))) }
-    // After any other fault than the disk's own nothing was written or cut.
-    ensures untouched { IfErr result (λ fault. fault ≢ Device → K.keeps → K.calls disk.new ≡ Synced (K.seen disk.new) ∷ K.calls disk.old) }
 {
     // What was found may go on only once it is fixed, or a crash could still take it back.
     match disk.sync() {
@@ -138,12 +136,8 @@ pub(crate) fn open_disk<M: Read + Drop, K: Disk>(
         Ok(bytes) => bytes,
         Err(fault) => return Err(fault),
     };
-    let entries = match read_entries(alloc, &bytes) {
-        Ok(entries) => entries,
-        Err(fault) => return Err(fault),
-    };
-    match finish(disk, entries.gate as u64, bytes.is_empty()) {
-        Ok(()) => Ok(entries),
-        Err(_) => Err(JournalFault::Device),
+    match read_entries(alloc, &bytes) {
+        Ok(entries) => Ok((entries, bytes.len())),
+        Err(fault) => Err(fault),
     }
 }

@@ -112,7 +112,8 @@ module _ {S D P G C : Type 0} where
   certificate_artifact (certificate.Finalization c) = artifact.Finalization c
 
   -- what stands behind a tag
-  unfoldable pub artifact_behind : (List ℕ → Result (D × List ℕ) CodecError) → (List ℕ → Result (G × List ℕ) CodecError) → (List ℕ → Result (C × List ℕ) CodecError) → ℕ → List ℕ → Result (Artifact S D P G C × List ℕ) CodecError
+  unfoldable pub artifact_behind : (List ℕ → Result (D × List ℕ) CodecError) → (List ℕ → Result (G × List ℕ) CodecError)
+      → (List ℕ → Result (C × List ℕ) CodecError) → ℕ → List ℕ → Result (Artifact S D P G C × List ℕ) CodecError
   artifact_behind q r s =
       or_at 0 notarize_artifact (vote_at q r) (
       or_at 1 notarization_artifact (certificate_at q s) (
@@ -123,7 +124,8 @@ module _ {S D P G C : Type 0} where
       or_at 6 finalization_artifact (certificate_at q s) (λ _. nothing_at)))))))
 
   -- the artifact at the front: a tag, then what stands behind it
-  unfoldable pub artifact_at : (List ℕ → Result (D × List ℕ) CodecError) → (List ℕ → Result (G × List ℕ) CodecError) → (List ℕ → Result (C × List ℕ) CodecError) → List ℕ → Result (Artifact S D P G C × List ℕ) CodecError
+  unfoldable pub artifact_at : (List ℕ → Result (D × List ℕ) CodecError) → (List ℕ → Result (G × List ℕ) CodecError)
+      → (List ℕ → Result (C × List ℕ) CodecError) → List ℕ → Result (Artifact S D P G C × List ℕ) CodecError
   artifact_at q r s = tagged_at (artifact_behind q r s)
 
   -- behind each tag one form is read, exactly where its bytes stand

@@ -76,11 +76,14 @@ module _ {S D P G C : Type 0} where
   as_finalization c = certificate.Finalization c
 
   -- what stands behind a tag
-  unfoldable pub any_certificate_behind : (List ℕ → Result (D × List ℕ) CodecError) → (List ℕ → Result (C × List ℕ) CodecError) → ℕ → List ℕ → Result (Certificate S D P G C × List ℕ) CodecError
-  any_certificate_behind q r = or_at 0 as_notarization (certificate_at q r) (or_at 1 as_nullification (nullification_at r) (or_at 2 as_finalization (certificate_at q r) (λ _. nothing_at)))
+  unfoldable pub any_certificate_behind : (List ℕ → Result (D × List ℕ) CodecError) → (List ℕ → Result (C × List ℕ) CodecError)
+      → ℕ → List ℕ → Result (Certificate S D P G C × List ℕ) CodecError
+  any_certificate_behind q r = or_at 0 as_notarization (certificate_at q r)
+      (or_at 1 as_nullification (nullification_at r) (or_at 2 as_finalization (certificate_at q r) (λ _. nothing_at)))
 
   -- the certificate at the front: a tag, then what stands behind it
-  unfoldable pub any_certificate_at : (List ℕ → Result (D × List ℕ) CodecError) → (List ℕ → Result (C × List ℕ) CodecError) → List ℕ → Result (Certificate S D P G C × List ℕ) CodecError
+  unfoldable pub any_certificate_at : (List ℕ → Result (D × List ℕ) CodecError) → (List ℕ → Result (C × List ℕ) CodecError)
+      → List ℕ → Result (Certificate S D P G C × List ℕ) CodecError
   any_certificate_at q r = tagged_at (any_certificate_behind q r)
 
   -- behind each tag one form is read, exactly where its bytes stand

@@ -29,7 +29,8 @@ module _ {S D P G C : Type 0} where
   nullification_fits F c = round_fits c.round × F c.certificate
 
   -- the nullification at the front: a round, then what certifies it
-  unfoldable pub nullification_at : (List ℕ → Result (C × List ℕ) CodecError) → List ℕ → Result (Nullification S D P G C × List ℕ) CodecError
+  unfoldable pub nullification_at : (List ℕ → Result (C × List ℕ) CodecError) → List ℕ
+      → Result (Nullification S D P G C × List ℕ) CodecError
   nullification_at reading = as_at nullification_of_parts (both_at round_at reading)
 
   -- a nullification is read exactly where its bytes stand

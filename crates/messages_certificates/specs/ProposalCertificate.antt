@@ -39,7 +39,8 @@ module _ {K S D P G C : Type 0} where
   certificate_fits Q F c = proposal_fits Q c.proposal × F c.certificate
 
   -- the certificate at the front: a proposal, then what certifies it
-  unfoldable pub certificate_at : (List ℕ → Result (D × List ℕ) CodecError) → (List ℕ → Result (C × List ℕ) CodecError) → List ℕ → Result (ProposalCertificate K S D P G C × List ℕ) CodecError
+  unfoldable pub certificate_at : (List ℕ → Result (D × List ℕ) CodecError) → (List ℕ → Result (C × List ℕ) CodecError) → List ℕ
+      → Result (ProposalCertificate K S D P G C × List ℕ) CodecError
   certificate_at payload reading = as_at certificate_of_parts (both_at (proposal_at payload) reading)
 
   -- a certificate is read exactly where its bytes stand

@@ -38,7 +38,8 @@ module _ {K S D P G C : Type 0} where
   vote_fits Q F v = proposal_fits Q v.proposal × attestation_fits F v.attestation
 
   -- the vote at the front: a proposal, then an attestation
-  abbrev pub vote_at : (List ℕ → Result (D × List ℕ) CodecError) → (List ℕ → Result (G × List ℕ) CodecError) → List ℕ → Result (ProposalVote K S D P G C × List ℕ) CodecError
+  abbrev pub vote_at : (List ℕ → Result (D × List ℕ) CodecError) → (List ℕ → Result (G × List ℕ) CodecError) → List ℕ
+      → Result (ProposalVote K S D P G C × List ℕ) CodecError
   vote_at payload signature = as_at vote_of_parts (both_at (proposal_at payload) (attestation_at signature))
 
   -- a vote is read exactly where its bytes stand

@@ -12,4 +12,5 @@ module _ {S D P G C : Type 0} where
 
   -- the same as a test
   abbrev pub stands_beside : Nullify S D P G C → Finalize S D P G C → Bool
-  stands_beside x y = ((x.round.epoch == y.proposal.round.epoch) && (x.round.view == y.proposal.round.view)) && (x.attestation.signer == y.attestation.signer)
+  stands_beside x y =
+      ((x.round.epoch == y.proposal.round.epoch) && (x.round.view == y.proposal.round.view)) && (x.attestation.signer == y.attestation.signer)

@@ -39,7 +39,8 @@ use Rattle.simplex_member.specs.Deeds.{Reports}
 use Rattle.simplex_member.specs.First.{IsFirst}
 use Rattle.simplex_member.specs.Layers.{current_of, floor_of, latest, repair_of, voter_of, votes_of, votes_setup}
 use Rattle.simplex_member.specs.Lives.{Holds, IsHonestPacket, Life, Lived, LiveByNodes, Lives, Members, events_of}
-use Rattle.simplex_member.specs.Member.{Goes, RetryIsKnown, IsPacketPoint, IsPointOf, NoneDue}
+use Rattle.simplex_member.specs.Allowed.{RetryIsKnown}
+use Rattle.simplex_member.specs.Member.{Goes, IsPacketPoint, IsPointOf, NoneDue}
 use Rattle.simplex_member.specs.Packet.{Formats, IsRecordable, Packet, of_certificate}
 use Rattle.simplex_member.specs.Point.{AreActs, Point, Opened, Began, Came, Told, Leads, History, is_act}
 use Rattle.simplex_member.specs.Refusals.{packet_tests, sender_tests, tests}

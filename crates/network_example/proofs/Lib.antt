@@ -7,3 +7,9 @@ mod Plain
 mod Stir
 mod Contradicted
 mod PlainContradicted
+mod Far
+mod Resolved
+mod Rules
+mod Finalized
+mod Chained
+mod PlainFinalized

@@ -160,7 +160,7 @@ module _ {S D P G C : Type 0} (g : Ghosts S D P G C) (f : Formats S D P G C) (ow
         record { order = (some-points (Found (artifact.Nullify (nullify_of signed i)) false) (Opened 2000 ∷ []), refl); due = tt; fits = tt; readable = tt },
         (
           record { order = refl; due = (refl, refl, refl); fits = tt; readable = tt },
-          (record { order = refl; due = tt; fits = tt; readable = tt }, refl),
+          (record { order = refl; due = λ known. cc (known refl); fits = tt; readable = tt }, refl),
         ),
       ),
     ),
@@ -190,7 +190,7 @@ module _ {S D P G C : Type 0} (g : Ghosts S D P G C) (f : Formats S D P G C) (ow
         fits = tt;
         readable = tt;
       },
-      (record { order = refl; due = tt; fits = tt; readable = tt }, refl),
+      (record { order = refl; due = λ known. cc (known refl); fits = tt; readable = tt }, refl),
     ),
   )
 

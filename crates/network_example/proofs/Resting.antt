@@ -24,7 +24,8 @@ use Rattle.simplex_resolver.specs.RepairHistory.{Item, Replayed}
 use Rattle.simplex_resolver.specs.Outstanding.{IsOutstanding}
 use Rattle.simplex_member.specs.Asked.{build_at}
 use Rattle.simplex_member.specs.Layers.{floor_of, latest, repair_of, voter_of, votes_of, votes_setup}
-use Rattle.simplex_member.specs.Member.{RetryIsKnown, NoneDue}
+use Rattle.simplex_member.specs.Allowed.{RetryIsKnown}
+use Rattle.simplex_member.specs.Member.{NoneDue}
 use Rattle.simplex_member.specs.Packet.{Formats}
 use Rattle.simplex_member.specs.Point.{Opened, Found, Began, Came, Told, Leads, Polls, Repeats, History}
 use Rattle.simplex_member.specs.Setup.{Setup}

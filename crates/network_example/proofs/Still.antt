@@ -20,10 +20,10 @@ use Rattle.simplex_batcher.specs.Queries.{has_nullify}
 use Rattle.simplex_resolver.specs.declared.ask.Kind as repair
 use Rattle.simplex_resolver.specs.declared.ask.Kind.TheVariants as repair_kind
 use Rattle.simplex_resolver.specs.Outstanding.{IsOutstanding}
-use Rattle.simplex_member.specs.Allowed.{HasReason}
+use Rattle.simplex_member.specs.Allowed.{HasReason, RetryIsKnown}
 use Rattle.simplex_member.specs.Asked.{build_at}
 use Rattle.simplex_member.specs.Layers.{current_of, known_of, latest, repair_of, voter_of, votes_of, votes_setup}
-use Rattle.simplex_member.specs.Member.{RetryIsKnown, NoneDue}
+use Rattle.simplex_member.specs.Member.{NoneDue}
 use Rattle.simplex_member.specs.Packet.{Formats}
 use Rattle.simplex_member.specs.Point.{History}
 use Rattle.simplex_member.specs.Setup.{Setup, member_of}

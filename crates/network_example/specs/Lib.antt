@@ -2,3 +2,5 @@ pub mod Example
 pub mod Plain
 pub mod Contradicted
 pub mod PlainContradicted
+pub mod Finalized
+pub mod PlainFinalized

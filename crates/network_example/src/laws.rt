@@ -1,11 +1,13 @@
-//! That networks are there, and that contradictory certificates can be reported in one.
+//! That networks are there, that contradictory certificates can be reported in one, and that one member finalizes view after view.
 
 ghost use Rattle.simplex_member.specs.Laws.{IsExact};
 ghost use Rattle.simplex_member.specs.Packet.{Formats, formats};
 ghost use Rattle.network_example.specs.Contradicted.{ContradictionsAreNamed};
 ghost use Rattle.network_example.specs.Example.{NetworksAreThere};
+ghost use Rattle.network_example.specs.Finalized.{TwoViewsAreFinalized};
 ghost use Rattle.network_example.specs.Plain.{PlainNetworksAreThere};
 ghost use Rattle.network_example.specs.PlainContradicted.{PlainContradictionsAreNamed};
+ghost use Rattle.network_example.specs.PlainFinalized.{PlainViewsAreFinalized};
 
 use simplex_member::packets_are_read_back;
 use simplex_network::accountability;
@@ -50,5 +52,22 @@ pub fn plain_contradictions_are_named<D: Digest>()
         ⟦<AttestationList<PlainSignature> as Read>⟧.reading 4) D.cmp D.spelling D.fits }
 {
     contradictions_are_named::<PlainScheme, D>();
+    packets_are_read_back::<PlainScheme, D>();
+}
+
+/// A committee of one finalizes two views, the second on the first: it builds in each, votes, makes each certificate of its own vote, and
+/// finds good what it built. Both proposals are handed out as final, and both finalizations seen.
+pub fn two_views_are_finalized<S: Scheme<D>, D: Digest>()
+    ensures { (f : Formats S D S.PublicKey S.Signature S.Certificate) → TwoViewsAreFinalized S.Scheme f }
+{}
+
+/// So it does under the plain scheme, with packets as the messages spell them, whatever the payloads are: each certificate is the member's
+/// one attestation.
+pub fn plain_views_are_finalized<D: Digest>()
+    ensures { PlainViewsAreFinalized ⟦<PlainScheme as Scheme<D>>⟧ (formats D.PartialEq.eq D.spelling ⟦<PlainSignature as Write>⟧.spelling
+        ⟦<AttestationList<PlainSignature> as Write>⟧.spelling D.reading ⟦<PlainSignature as Read>⟧.reading
+        ⟦<AttestationList<PlainSignature> as Read>⟧.reading 1) D.spelling D.fits }
+{
+    two_views_are_finalized::<PlainScheme, D>();
     packets_are_read_back::<PlainScheme, D>();
 }

@@ -5,5 +5,5 @@ mod laws;
 
 pub use laws::{
     contradictions_are_named, networks_are_there, plain_contradictions_are_named,
-    plain_networks_are_there,
+    plain_networks_are_there, plain_views_are_finalized, two_views_are_finalized,
 };

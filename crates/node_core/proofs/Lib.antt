@@ -6,3 +6,6 @@ mod Finding
 mod Gone
 mod Recalled
 mod SaidSo
+mod Free
+mod Knowing
+mod NextFound

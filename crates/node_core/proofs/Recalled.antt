@@ -70,7 +70,7 @@ module _ {S D P G C : Type 0} where
   there-first true first later other = refl
   there-first false first later other = other refl
 
-  notarization-there : (xs : List (Artifact S D P G C)) (p : Proposal D) → Contains (entries xs) (taken (notarize p)) → IsSome (notarization_in xs p.round.view)
+  pub notarization-there : (xs : List (Artifact S D P G C)) (p : Proposal D) → Contains (entries xs) (taken (notarize p)) → IsSome (notarization_in xs p.round.view)
   notarization-there [] p there = absurd (Contains-nil (taken (notarize p)) there)
   notarization-there (artifact.Notarization x ∷ xs) p there =
       there-first (x.proposal.round.view == p.round.view) x (notarization_in xs p.round.view)

@@ -1,19 +1,47 @@
--- What is so of an artifact that says a vote or a certificate.
-use Rattle.std.proofs.Common.{◌≡◌, ◌∙◌, ℕ, sym, ap, subst}
+-- What is so of the vote or the certificate that a recorded artifact says, where the votes of its view take it in.
+use Rattle.std.proofs.Common.{◌≡◌, ◌∙◌, ℕ, true, sym, ap, subst}
+use Rattle.std.specs.Prelude.{is_none}
 use Rattle.types_core.specs.declared.position.Round.{Round}
+use Rattle.types_core.specs.declared.scheme.Scheme.{Ghosts}
+use Rattle.types_core.specs.Positions.{HasRoom}
 use Rattle.messages_certificates.specs.declared.artifact.Artifact.{Artifact}
 use Rattle.messages_certificates.specs.declared.certificate.Certificate.{Certificate}
+use Rattle.messages_certificates.specs.declared.certificate.Certificate.TheVariants as certificate
 use Rattle.messages_certificates.specs.Artifact.{artifact_round, certificate_artifact}
 use Rattle.messages_certificates.specs.Certificate.{certificate_round}
 use Rattle.simplex_messages.specs.declared.vote.Vote.{Vote}
+use Rattle.simplex_messages.specs.declared.vote.Vote.TheVariants as vote
 use Rattle.simplex_messages.specs.VoteParts.{vote_artifact, vote_round}
+use Rattle.simplex_record.specs.Lawful.{Verifies}
+use Rattle.batcher_verifier.specs.History.{recorded}
+use Rattle.node_votes.specs.KeepsVotes.{IsNewVote}
+use Rattle.simplex_member.specs.Layers.{votes_of}
+use Rattle.simplex_member.specs.Point.{History}
+use Rattle.simplex_member.specs.Setup.{Setup, owner_of}
+use Rattle.node_core.specs.Recalling.{CanBeCounted}
 use Rattle.node_core.specs.SaidRounds.{of_certificate, of_vote}
 
-module _ {S D P G C : Type 0} (Q : Artifact S D P G C → Type 0) (R : ℕ → Type 0) (x : Artifact S D P G C) where
-  -- what is so of an artifact that says a vote, where it verifies so and is of a view such as this
-  pub of-own : (V : Artifact S D P G C → Type 0) (v : Vote S D P G C) → x ≡ vote_artifact v → R (artifact_round x).view → V x → (R (vote_round v).view → V (vote_artifact v) → Q (vote_artifact v)) → Q x
-  of-own V v is room fits told = subst Q (sym is) (told (subst (λ (r : Round). R r.view) (ap artifact_round is ∙ of_vote v) room) (subst V is fits))
+module _ {S D P G C : Type 0} (g : Ghosts S D P G C) (s : Setup S D C) (h : History S D P G C) where
+  -- an own vote that verifies and finds nothing in its way is new
+  pub new-vote : (v : Vote S D P G C) → Verifies (g.attests s.voter.scheme) (g.certifies s.voter.scheme) (owner_of s) (vote_artifact v) → HasRoom s.voter.length (vote_round v).view
+      → is_none (recorded (votes_of s h (vote_round v).view) v) ≡ true → IsNewVote g s h v
+  new-vote (vote.Notarize v) own room free = record { epoch = own.epoch; room = room; attests = own.verifies; free = free }
+  new-vote (vote.Nullify v) own room free = record { epoch = own.epoch; room = room; attests = own.verifies; free = free }
+  new-vote (vote.Finalize v) own room free = record { epoch = own.epoch; room = room; attests = own.verifies; free = free }
 
-  -- of one that says a certificate
-  pub of-its : (c : Certificate S D P G C) → x ≡ certificate_artifact c → R (artifact_round x).view → (R (certificate_round c).view → Q (certificate_artifact c)) → Q x
-  of-its c is room told = subst Q (sym is) (told (subst (λ (r : Round). R r.view) (ap artifact_round is ∙ of_certificate c) room))
+  -- a certificate that verifies is of the epoch
+  of-epoch : (c : Certificate S D P G C) → Verifies (g.attests s.voter.scheme) (g.certifies s.voter.scheme) (owner_of s) (certificate_artifact c) → (certificate_round c).epoch ≡ s.voter.epoch
+  of-epoch (certificate.Notarization c) its = its.epoch
+  of-epoch (certificate.Nullification c) its = its.epoch
+  of-epoch (certificate.Finalization c) its = its.epoch
+
+  module _ (x : Artifact S D P G C) where
+    pub new-own : (v : Vote S D P G C) → x ≡ vote_artifact v → CanBeCounted g s h x → IsNewVote g s h v
+    new-own v is counted = new-vote v (subst (Verifies (g.attests s.voter.scheme) (g.certifies s.voter.scheme) (owner_of s)) is counted.verifies)
+        (subst (λ (r : Round). HasRoom s.voter.length r.view) (ap artifact_round is ∙ of_vote v) counted.room) (counted.free v is)
+
+    pub its-epoch : (c : Certificate S D P G C) → x ≡ certificate_artifact c → CanBeCounted g s h x → (certificate_round c).epoch ≡ s.voter.epoch
+    its-epoch c is counted = of-epoch c (subst (Verifies (g.attests s.voter.scheme) (g.certifies s.voter.scheme) (owner_of s)) is counted.verifies)
+
+    pub its-room : (c : Certificate S D P G C) → x ≡ certificate_artifact c → CanBeCounted g s h x → HasRoom s.voter.length (certificate_round c).view
+    its-room c is counted = subst (λ (r : Round). HasRoom s.voter.length r.view) (ap artifact_round is ∙ of_certificate c) counted.room

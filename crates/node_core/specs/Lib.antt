@@ -9,3 +9,4 @@ pub mod Learning
 pub mod GoingThrough
 pub mod Saying
 pub mod SaidRounds
+pub mod Recalling

@@ -9,21 +9,23 @@ ghost use Rattle.simplex_member.specs.Recorded.{record_of, reported};
 ghost use Rattle.simplex_member.specs.Setup.{Setup, IsInTime, setup_of};
 ghost use Rattle.node_core.specs.SettingUp.{IsSetUp};
 ghost use Rattle.node_core.specs.GoingThrough.{AreNew, HasBegun, IsGoneThrough, IsRecordOf, StandAt, deeds_along};
+ghost use Rattle.node_core.specs.Recalling.{GoesThrough, IsReady, MayBegin};
 
 use crate::recalling::{finalize, report, tell_repair, tell_voter};
 use crate::settings::Settings;
 use crate::telling::tell_votes;
-use crate::told_layers::what_is_not_recorded_is_unknown;
+use crate::told_layers::{own_votes_come_free, what_is_not_recorded_is_unknown};
 use messages_certificates::Artifact;
 use node_record::{Recorded, Tables, quiet_points_leave_the_tables};
 use node_votes::{Acceptance, silent_points_leave_votes};
-use simplex_member::{Action, Speaks};
+use simplex_member::{Action, Speaks, packets_are_read_back};
 use simplex_record::lawful_records_leave_room;
 use simplex_resolver::State as Repair;
 use simplex_state::State as Voter;
 use std::alloc::{AllocError, Global};
 use types_core::{Digest, Scheme};
 use types_terms::Elector;
+use voter_laws::what_is_known_stays;
 use voter_rules::config::Config;
 
 /// What a node keeps above its record: what it knows, which votes it accepted, what it can serve, and what it asked for.
@@ -40,7 +42,7 @@ impl<S: Scheme<D> + Drop, L: Elector<S, D>, D: Digest> Layers<S, L, D> {
     ///
     /// # Errors
     ///
-    /// `AllocError` where memory ran out; and where the record is not lawful, or has an own vote of a view without room.
+    /// `AllocError` where memory ran out.
     pub fn begin(
         settings: &Settings<S>,
         config: &Config<D>,
@@ -48,7 +50,9 @@ impl<S: Scheme<D> + Drop, L: Elector<S, D>, D: Digest> Layers<S, L, D> {
         now: u64,
         recorded: &Recorded<S, D>,
     ) -> Result<(Self, Vec<Action<S, D>>), AllocError>
-        requires { L.built_for elector (S.size settings.now.scheme.value) }
+        requires built_for { L.built_for elector (S.size settings.now.scheme.value) }
+        requires ready { (index : ℕ) × IsReady S.Scheme (setup_of S.Scheme L.Elector config.now settings.now.scheme.value elector index) settings.now
+            recorded.now now }
         ensures { IfOk result (λ r.
             (n index : ℕ) (found : List (Artifact S D S.PublicKey S.Signature S.Certificate))
             → let s = setup_of S.Scheme L.Elector config.now settings.now.scheme.value elector index in IsSetUp s settings.now
@@ -105,6 +109,7 @@ impl<S: Scheme<D> + Drop, L: Elector<S, D>, D: Digest> Layers<S, L, D> {
         genesis: D,
         recorded: &Recorded<S, D>,
     ) -> Result<Vec<Action<S, D>>, AllocError>
+        requires { MayBegin S.Scheme L.Elector ⟦<S as Speaks<D>>⟧.formats recorded.now self.old now genesis }
         ensures { IfOk result (λ out.
             (n : ℕ) (s : Setup S D S.Certificate) (found : List (Artifact S D S.PublicKey S.Signature S.Certificate))
             → genesis ≡ s.genesis
@@ -142,6 +147,8 @@ impl<S: Scheme<D> + Drop, L: Elector<S, D>, D: Digest> Layers<S, L, D> {
         recorded: &Recorded<S, D>,
         out: &mut Vec<Action<S, D>>,
     ) -> Result<(), AllocError>
+        requires { (found : List (Artifact S D S.PublicKey S.Signature S.Certificate))
+            × GoesThrough S.Scheme L.Elector ⟦<S as Speaks<D>>⟧.formats recorded.now self.old found found out.old.items }
         ensures { OnOk result ((n now : ℕ) (s : Setup S D S.Certificate) (found : List (Artifact S D S.PublicKey S.Signature S.Certificate))
             → IsRecordOf S.Scheme s recorded.now found
             → IsGoneThrough S.Scheme L.Elector (⟦<S as Speaks<D>>⟧.formats n) s now found found self.old out.old.items
@@ -162,6 +169,10 @@ impl<S: Scheme<D> + Drop, L: Elector<S, D>, D: Digest> Layers<S, L, D> {
         recorded: &Recorded<S, D>,
         artifact: &Artifact<S, D>,
     ) -> Result<(), AllocError>
+        requires { (found : List (Artifact S D S.PublicKey S.Signature S.Certificate))
+            × (rest : List (Artifact S D S.PublicKey S.Signature S.Certificate))
+            × (before : List (Action S D S.PublicKey S.Signature S.Certificate))
+            × GoesThrough S.Scheme L.Elector ⟦<S as Speaks<D>>⟧.formats recorded.now self.old found (artifact.now ∷ rest) before }
         ensures { OnOk result ((n now : ℕ) (s : Setup S D S.Certificate)
             (found rest : List (Artifact S D S.PublicKey S.Signature S.Certificate))
             (before after : List (Action S D S.PublicKey S.Signature S.Certificate))
@@ -173,10 +184,12 @@ impl<S: Scheme<D> + Drop, L: Elector<S, D>, D: Digest> Layers<S, L, D> {
     {
         quiet_points_leave_the_tables::<S, D>();
         what_is_not_recorded_is_unknown::<S, D>();
+        what_is_known_stays::<S, D>();
+        own_votes_come_free::<S, D>();
+        packets_are_read_back::<S, D>();
         lawful_records_leave_room::<S, D>();
-        let floor = self.voter.views().min_active();
         tell_voter(&mut self.voter, alloc, self.tables.moment(), artifact)?;
-        tell_votes(&mut self.acceptance, alloc, floor, artifact)?;
+        tell_votes(&mut self.acceptance, alloc, artifact)?;
         let current = self.voter.current_view();
         let least = self.voter.views().min_active();
         self.acceptance.enter(current, least)?;

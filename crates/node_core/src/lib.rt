@@ -22,5 +22,5 @@ pub use layers::Layers;
 pub use node_state::Core;
 pub use settings::Settings;
 pub use told_layers::{
-    give, give_verdict, judge_repair, update_repair, what_is_not_recorded_is_unknown,
+    give, judge_repair, own_votes_come_free, update_repair, what_is_not_recorded_is_unknown,
 };

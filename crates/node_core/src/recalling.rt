@@ -14,6 +14,7 @@ ghost use Rattle.simplex_state.specs.State as voting;
 ghost use Rattle.simplex_resolver.specs.RepairHistory.{Judged};
 ghost use Rattle.simplex_resolver.specs.Keeps as repairing;
 ghost use Rattle.node_record.specs.Recorded.{HoldsRecord};
+ghost use Rattle.simplex_member.specs.declared.fault.NodeFault.TheVariants as step_fault;
 ghost use Rattle.simplex_member.specs.Deeds.{AreActions, Deed, Finalizes, Reports};
 ghost use Rattle.simplex_member.specs.Layers.{finds, repair_found, repair_of};
 ghost use Rattle.simplex_member.specs.Packet.{Formats};
@@ -22,13 +23,14 @@ ghost use Rattle.simplex_member.specs.Recorded.{finalization_in, notarization_in
 ghost use Rattle.simplex_member.specs.Setup.{Setup};
 ghost use Rattle.node_core.specs.GoingThrough.{IsRecordOf};
 ghost use Rattle.node_core.specs.Learning.{IsNew};
+ghost use Rattle.node_core.specs.Recalling.{CanLearn, HasNotarization, IsOnRecorded};
 
 use crate::saying::Said;
-use crate::told_layers::{give, give_verdict, judge_repair, update_repair};
+use crate::told_layers::{give, judge_repair, update_repair};
 use messages_certificates::Artifact;
 use node_outbox::{hand_out, report_if};
 use node_record::Recorded;
-use simplex_member::{Action, Speaks};
+use simplex_member::{Action, NodeFault, Speaks};
 use simplex_messages::Activity;
 use simplex_resolver::State as Repair;
 use simplex_state::State as Voter;
@@ -36,17 +38,19 @@ use std::alloc::{AllocError, Global};
 use types_core::{Digest, Duplicate, Scheme, View};
 use types_terms::Elector;
 
-/// Tells the voter of an artifact of a view with room, which is new to it where it is a certificate.
+/// Tells the voter of an artifact of a view with room, which is new to it where it is a certificate, and on what it knows where it is a
+/// verdict.
 ///
 /// # Errors
 ///
-/// `AllocError` where memory ran out; and where the notarization of a verdict is not known, as in no lawful record.
+/// `AllocError` where memory ran out.
 pub(crate) fn tell_voter<S: Scheme<D> + Drop, L: Elector<S, D>, D: Digest>(
     voter: &mut Voter<S, L, D>,
     alloc: Global,
     now: u64,
     artifact: &Artifact<S, D>,
 ) -> Result<(), AllocError>
+    requires { CanLearn S.Scheme L.Elector voter.old artifact.now }
     ensures { OnOk result (voting.AtEach S.Scheme L.Elector voter.old (λ s h.
         HasRoom s.length (artifact_round artifact.now).view
         → IsNew s h artifact.now
@@ -57,9 +61,9 @@ pub(crate) fn tell_voter<S: Scheme<D> + Drop, L: Elector<S, D>, D: Digest>(
     match Said::from(artifact.duplicate(alloc)?) {
         Said::Vote(_) => Ok(()),
         Said::Certificate(certificate) => give(alloc, now, &certificate, voter),
-        Said::Verdict(round, ok) => match give_verdict(alloc, now, round.view, ok, voter) {
-            Ok(_) => Ok(()),
-            Err(_) => Err(AllocError),
+        Said::Verdict(round, ok) => match voter.certified(alloc, now, round.view, ok)? {
+            Some(_) => Ok(()),
+            None => unreachable!(),
         },
     }
 }
@@ -68,13 +72,14 @@ pub(crate) fn tell_voter<S: Scheme<D> + Drop, L: Elector<S, D>, D: Digest>(
 ///
 /// # Errors
 ///
-/// `AllocError` where memory ran out; and where the notarization of a verdict is not recorded, as in no lawful record.
+/// `AllocError` where memory ran out.
 pub(crate) fn tell_repair<S: Scheme<D>, D: Digest>(
     repair: &mut Repair,
     alloc: Global,
     recorded: &Recorded<S, D>,
     artifact: &Artifact<S, D>,
 ) -> Result<(), AllocError>
+    requires { IsOnRecorded recorded.now artifact.now }
     ensures { OnOk result ((n : ℕ) (s : Setup S D S.Certificate) (h : History S D S.PublicKey S.Signature S.Certificate)
         (rest : List (Artifact S D S.PublicKey S.Signature S.Certificate))
         → HasRoom s.voter.length (artifact_round artifact.now).view
@@ -87,7 +92,7 @@ pub(crate) fn tell_repair<S: Scheme<D>, D: Digest>(
         Said::Vote(_) => Ok(()),
         Said::Certificate(certificate) => match update_repair(alloc, &certificate, repair) {
             Ok(()) => Ok(()),
-            Err(_) => Err(AllocError),
+            Err(fault) => Err(memory_alone(fault)),
         },
         Said::Verdict(round, ok) => judge(repair, alloc, recorded, round.view, ok),
     }
@@ -101,6 +106,7 @@ fn judge<S: Scheme<D>, D: Digest>(
     view: View,
     ok: bool,
 ) -> Result<(), AllocError>
+    requires { HasNotarization recorded.now view }
     ensures { OnOk result ((owner : Owner) (xs : List (Artifact S D S.PublicKey S.Signature S.Certificate))
         → HoldsRecord owner recorded.now xs
         → (c : Notarization S D S.PublicKey S.Signature S.Certificate) × (notarization_in xs view ≡ Some c) × repairing.AtEach repair.old
@@ -114,10 +120,10 @@ fn judge<S: Scheme<D>, D: Digest>(
             let copy = certificate.duplicate(alloc)?;
             match judge_repair(alloc, copy, ok, repair) {
                 Ok(()) => Ok(()),
-                Err(_) => Err(AllocError),
+                Err(fault) => Err(memory_alone(fault)),
             }
         }
-        None => Err(AllocError),
+        None => unreachable!(),
     }
 }
 
@@ -142,7 +148,7 @@ pub(crate) fn report<S: Scheme<D>, D: Digest>(
     let report = report_of(alloc, recorded, artifact)?;
     match report_if(report, out) {
         Ok(()) => Ok(()),
-        Err(_) => Err(AllocError),
+        Err(fault) => Err(memory_alone(fault)),
     }
 }
 
@@ -205,8 +211,18 @@ pub(crate) fn finalize<S: Scheme<D>, D: Digest>(
     match recorded.finalization(view) {
         Some(finalization) => match hand_out(Action::Finalized(finalization.proposal), out) {
             Ok(()) => Ok(()),
-            Err(_) => Err(AllocError),
+            Err(fault) => Err(memory_alone(fault)),
         },
         None => Ok(()),
+    }
+}
+
+/// Want of memory, where a layer tells of nothing else.
+fn memory_alone(fault: NodeFault) -> AllocError
+    requires { fault ≡ step_fault.Memory }
+{
+    match fault {
+        NodeFault::Memory => AllocError,
+        NodeFault::Device | NodeFault::Failed => unreachable!(),
     }
 }

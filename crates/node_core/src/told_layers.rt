@@ -1,29 +1,33 @@
 //! What voter and repair learn of a certificate or a verdict.
 
-ghost use Rattle.std.specs.Prelude.{◌≡◌, ◌≢◌, ◌∷◌, [], None, Some, IfOk, IfErr, OnOk};
+ghost use Rattle.std.specs.Prelude.{◌≡◌, ◌≢◌, ◌∷◌, [], Bool, true, None, IfErr, OnOk, is_none};
 ghost use Rattle.types_core.specs.Positions.{HasRoom};
 ghost use Rattle.messages_certificates.specs.Certificate.{any_certificate_spelling, as_notarization, certificate_round, certificate_statement};
 ghost use Rattle.messages_certificates.specs.declared.certificate.Certificate.{Certificate};
-ghost use Rattle.voter_history.specs.History.{judged, notarized, nullified, finalized, nullification, seen};
+ghost use Rattle.simplex_messages.specs.declared.vote.Vote.{Vote};
+ghost use Rattle.simplex_messages.specs.VoteParts.{vote_artifact, vote_round};
+ghost use Rattle.batcher_verifier.specs.History.{recorded};
+ghost use Rattle.voter_history.specs.History.{notarized, nullified, finalized, nullification, seen};
 ghost use Rattle.voter_history.specs.Past as past;
 ghost use Rattle.simplex_state.specs.State as voting;
 ghost use Rattle.simplex_resolver.specs.Keeps as repairing;
 ghost use Rattle.simplex_resolver.specs.RepairHistory.{Judged, item_of};
 ghost use Rattle.simplex_member.specs.declared.fault.NodeFault.TheVariants as step_fault;
 ghost use Rattle.simplex_member.specs.Allowed.{AreAllowed};
-ghost use Rattle.simplex_member.specs.Layers.{given, voter_of};
+ghost use Rattle.simplex_member.specs.Laws.{IsExact};
+ghost use Rattle.simplex_member.specs.Layers.{given, voter_of, votes_of};
 ghost use Rattle.simplex_member.specs.Packet.{Formats};
-ghost use Rattle.simplex_member.specs.Point.{History};
+ghost use Rattle.simplex_member.specs.Point.{Found, History, Votes};
 ghost use Rattle.simplex_member.specs.Refusals.{HasNoneLike};
 ghost use Rattle.simplex_member.specs.Setup.{Setup};
 ghost use Rattle.node_core.specs.Learning.{IsUnknown};
 
 use messages_certificates::{Certificate, Finalization, Notarization, Nullification};
-use simplex_member::{NodeFault, voters_are_orderly, voters_tell_the_record};
+use simplex_member::{NodeFault, voters_are_orderly, voters_tell_the_record, votes_are_lawful};
 use simplex_resolver::State as Repair;
 use simplex_state::State as Voter;
 use std::alloc::{AllocError, Global};
-use types_core::{Digest, Duplicate, Scheme, View};
+use types_core::{Digest, Duplicate, Scheme};
 use types_terms::Elector;
 use voter_laws::{what_is_known_is_recorded, what_is_recorded_is_known};
 
@@ -40,6 +44,24 @@ pub fn what_is_not_recorded_is_unknown<S: Scheme<D>, D: Digest>()
     voters_tell_the_record::<S, D>();
     what_is_known_is_recorded::<S, D>();
     what_is_recorded_is_known::<S, D>();
+}
+
+/// No vote that was accepted stands in the way of an own one that comes next, from the record or newly made, of a view with room.
+pub fn own_votes_come_free<S: Scheme<D>, D: Digest>()
+    ensures found { (f : Formats S D S.PublicKey S.Signature S.Certificate) (s : Setup S D S.Certificate)
+        (h : History S D S.PublicKey S.Signature S.Certificate) (v : Vote S D S.PublicKey S.Signature S.Certificate) (taken : Bool)
+        → IsExact f
+        → AreAllowed S.Scheme f s (Found (vote_artifact v) taken ∷ h)
+        → HasRoom s.voter.length (vote_round v).view
+        → is_none (recorded (votes_of s h (vote_round v).view) v) ≡ true }
+    ensures made { (f : Formats S D S.PublicKey S.Signature S.Certificate) (s : Setup S D S.Certificate)
+        (h : History S D S.PublicKey S.Signature S.Certificate) (v : Vote S D S.PublicKey S.Signature S.Certificate)
+        → IsExact f
+        → AreAllowed S.Scheme f s (Votes v ∷ h)
+        → HasRoom s.voter.length (vote_round v).view
+        → is_none (recorded (votes_of s h (vote_round v).view) v) ≡ true }
+{
+    votes_are_lawful::<S, D>();
 }
 
 /// Gives the voter a notarization, of whose view it knows none.
@@ -116,31 +138,6 @@ pub fn give<S: Scheme<D> + Drop, L: Elector<S, D>, D: Digest>(
         Certificate::Finalization(finalization) => {
             give_finalization(alloc, now, finalization, voter)
         }
-    }
-}
-
-/// Gives the voter a verdict on the notarization of a view, and answers that notarization.
-///
-/// # Errors
-///
-/// [`NodeFault::Memory`], also where the voter has no such notarization.
-pub fn give_verdict<S: Scheme<D> + Drop, L: Elector<S, D>, D: Digest>(
-    alloc: Global,
-    now: u64,
-    view: View,
-    ok: bool,
-    voter: &mut Voter<S, L, D>,
-) -> Result<Notarization<S, D>, NodeFault>
-    ensures told { OnOk result
-        (voting.AtEach S.Scheme L.Elector voter.old (λ s h. voting.Keeps S.Scheme L.Elector s voter.new (judged now view ok ∷ h))) }
-    ensures known { IfOk result (λ notarization.
-        voting.AtEach S.Scheme L.Elector voter.old (λ s h. HasRoom s.length view → Some notarization ≡ past.notarization (seen s h view))) }
-    ensures fault { IfErr result (λ why. why ≡ step_fault.Memory) }
-{
-    match voter.certified(alloc, now, view, ok) {
-        Ok(Some(notarization)) => Ok(notarization),
-        Ok(None) => Err(NodeFault::Memory),
-        Err(_) => Err(NodeFault::Memory),
     }
 }
 

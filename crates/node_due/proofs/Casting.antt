@@ -1,5 +1,5 @@
 -- Own votes: what one point of the node's own comes to, when an own vote may come next, and where the node stands behind it.
-use Rattle.std.proofs.Common.{◌≡◌, ◌≢◌, ◌≤◌, ◌<◌, ◌-◌, ◌⊎◌, ⊎_elim, inl, inr, ℕ, Bool, true, false, List, [], ◌∷◌, ◌++◌, Option, Some, None, Result, Ok, Err, refl, sym, ◌∙◌, ap, subst, append-nil, arith, map}
+use Rattle.std.proofs.Common.{◌≡◌, ◌≢◌, ◌≤◌, ◌<◌, ◌-◌, ◌⊎◌, ⊎_elim, ℕ, Bool, true, false, List, [], ◌∷◌, ◌++◌, Option, Some, None, Result, Ok, Err, refl, sym, ◌∙◌, ap, subst, append-nil, arith, map}
 use Rattle.std.specs.Prelude.{◌==◌, nat_lt, All, Contains, IfErr, IfOk, IsErrOf, IsSome, OnOk, if◌then◌else◌}
 use Rattle.std.specs.Option.{option_or}
 use Rattle.std.proofs.lemmas.Bool.{eq-eqb, false≢true, lt-ltb}
@@ -53,11 +53,11 @@ use Rattle.node_record.specs.Tables.{KeepsTables}
 use Rattle.simplex_member.specs.declared.action.Action.{Action}
 use Rattle.simplex_member.specs.declared.fault.NodeFault.{NodeFault}
 use Rattle.simplex_member.specs.declared.fault.NodeFault.TheVariants as step_fault
-use Rattle.simplex_member.specs.Allowed.{Allowed, AreAllowed, VoteIsDue}
+use Rattle.simplex_member.specs.Allowed.{Allowed, AreAllowed, RetryIsKnown, VoteIsDue}
 use Rattle.simplex_member.specs.Deeds.{Deed, Reports, Sends, all_deeds, deeds_of}
 use Rattle.simplex_member.specs.Laws.{DueMayBeRecorded, KnownNullifiesAreRecorded, RecordsStayLawful}
 use Rattle.simplex_member.specs.Layers.{casts, current_of, finalized_of, floor_of, is_begun, known_of, latest, voter_of}
-use Rattle.simplex_member.specs.Member.{Goes, RetryIsKnown}
+use Rattle.simplex_member.specs.Member.{Goes}
 use Rattle.simplex_member.specs.Packet.{Formats, IsRecordable, of_vote}
 use Rattle.simplex_member.specs.Point.{AreActs, History, Polls, Point, Repeats, Votes, is_act}
 use Rattle.simplex_member.specs.Recorded.{record_of, reported}
@@ -65,7 +65,10 @@ use Rattle.simplex_member.specs.Setup.{Setup, member_of, owner_of}
 use Rattle.node_outbox.specs.Handing.{AddsDeeds, hands_as, nothing_more}
 use Rattle.node_requests.specs.declared.acted.Acted.{Acted}
 use Rattle.node_requests.specs.declared.acted.Acted.TheVariants as came
-use Rattle.node_requests.specs.Asking.{AskerKeeps, BringsOn, is_none}
+use Rattle.node_requests.specs.Asking.{AskerKeeps, is_none, is_poll}
+use Rattle.node_requests.specs.Onward.{is_some_list}
+use Rattle.node_requests.specs.Polling.{after_poll_by}
+use Rattle.node_requests.specs.Waking.{after_poll}
 use Rattle.node_core.specs.declared.node_state.Core.{Core}
 use Rattle.node_due.specs.Acting.{ComesTo, HasActed, IsLeftByActs, WasTried}
 use Rattle.node_due.specs.Ahead.{MayCome, VoterIsAhead}
@@ -129,14 +132,14 @@ module _ {S L D P G C K : Type 0} (g : Ghosts S D P G C) (e : elector.Ghosts L S
 
   module _ (is_kind : Point S D P G C → Bool) (Done : History S D P G C → Type 0) where
     -- one point was taken
-    pub did_one : (old new : Core S L D K P G C) (h : History S D P G C) (p : Point S D P G C) (before after : List (Action S D P G C)) (answer : Result Acted NodeFault) → is_act p ≡ true → BringsOn g f s h p
+    pub did_one : (old new : Core S L D K P G C) (h : History S D P G C) (p : Point S D P G C) (before after : List (Action S D P G C)) (answer : Result Acted NodeFault) → is_act p ≡ true
         → IfOk answer (λ done. done ≡ came.Did) → OnOk answer (IsTaken g e k f s new h p before after)
         → (k.keeps → LeavesOnly (k.calls (disk_of old)) (k.calls (disk_of new)) (IsLeftBy g f s h p)) → WasTried g e k f s is_kind Done old new h before after answer
-    did_one old new h p before after (Ok done) own brings did taken leaves = record {
-      ok = subst (λ (a : Acted). ComesTo g e k f s is_kind Done new h before after a) (sym did) (record { points = p ∷ []; end = p ∷ h; acted = one_acted new h p before after own taken; some = inl brings });
+    did_one old new h p before after (Ok done) own did taken leaves = record {
+      ok = subst (λ (a : Acted). ComesTo g e k f s is_kind Done new h before after a) (sym did) (record { points = p ∷ []; end = p ∷ h; acted = one_acted new h p before after own taken; some = is_some_list p [] });
       any_moment = λ it. left_by_act g f s h p (k.calls (disk_of old)) (k.calls (disk_of new)) own (leaves it);
     }
-    did_one old new h p before after (Err why) own brings did taken leaves = record {
+    did_one old new h p before after (Err why) own did taken leaves = record {
       ok = tt;
       any_moment = λ it. left_by_act g f s h p (k.calls (disk_of old)) (k.calls (disk_of new)) own (leaves it);
     }
@@ -160,7 +163,7 @@ module _ {S L D P G C K : Type 0} (g : Ghosts S D P G C) (e : elector.Ghosts L S
         → is_act p ≡ true → Allowed g f s h p → deeds_of g f s h p ≡ [] → is_kind p ≡ true
         → ComesTo g e k f s is_none Done new (p ∷ h) before after acted → ComesTo g e k f s is_kind Done new h before after acted
     came_behind new h p before after came.Did own may silent kind did =
-        record { points = p ∷ did.points; end = did.end; acted = more_acts new h p did.points did.end before after own may silent did.acted; some = inr did.some }
+        record { points = p ∷ did.points; end = did.end; acted = more_acts new h p did.points did.end before after own may silent did.acted; some = is_some_list p did.points }
     came_behind new h p before after came.Nothing own may silent kind did = record {
       points = p ∷ did.points;
       end = did.end;
@@ -199,6 +202,25 @@ module _ {S L D P G C K : Type 0} (g : Ghosts S D P G C) (e : elector.Ghosts L S
       any_moment = λ it. left_behind g f s h p (k.calls (disk_of old)) (k.calls (disk_of new)) own may
           (subst (λ (on : K). LeavesOnly (k.calls on) (k.calls (disk_of new)) (IsLeftByActs g f s (p ∷ h))) same (tried.any_moment it));
     }
+
+    -- the same without such a point
+    pub tried_here : (old mid new : Core S L D K P G C) (h : History S D P G C) (before after : List (Action S D P G C)) (answer : Result Acted NodeFault) → disk_of mid ≡ disk_of old
+        → WasTried g e k f s is_none Done mid new h before after answer → WasTried g e k f s is_kind Done old new h before after answer
+    tried_here old mid new h before after answer same tried = record {
+      ok = by answer tried.ok;
+      any_moment = λ it. subst (λ (on : K). LeavesOnly (k.calls on) (k.calls (disk_of new)) (IsLeftByActs g f s h)) same (tried.any_moment it);
+    }
+      where
+        by : (answer : Result Acted NodeFault) → IfOk answer (ComesTo g e k f s is_none Done new h before after) → IfOk answer (ComesTo g e k f s is_kind Done new h before after)
+        by (Ok came.Did) did = did
+        by (Ok came.Nothing) none = record {
+          points = none.points;
+          end = none.end;
+          are_kind = All-weaker (λ (q : Point S D P G C). is_none q ≡ true) (λ (q : Point S D P G C). is_kind q ≡ true) (λ q never. absurd (false≢true never)) none.points none.are_kind;
+          acted = none.acted;
+          none = none.none;
+        }
+        by (Err why) none = tt
 
   -- ---- the voter
 
@@ -416,11 +438,28 @@ module _ {S L D P G C K : Type 0} (g : Ghosts S D P G C) (e : elector.Ghosts L S
       hands_as f before after (deeds_of g f s h (Votes v)) (Sends None (of_vote v) ∷ Reports a ∷ [])
       (ap (λ (l : List (Deed S D P G C)). Sends None (of_vote v) ∷ l) (vote_reported (record_of h) v ∙ ap (λ (r : Activity S D P G C). Reports r ∷ []) (sym is))) handed
 
-  -- behind a look at the next timeout the node stands where it did
-  pub behind_poll : (node : Core S L D K P G C) (voter : State S L D P G C) (h : History S D P G C) → QuietStays g f.same → CoreKeeps g e k f s node h → voting.Keeps g e s.voter voter (voter_of s (Polls ∷ h))
-      → KeepsTables (finalized_of s h) node.tables (Polls ∷ h) → CoreKeeps g e k f s (record node { voter = voter }) (Polls ∷ h)
-  behind_poll node voter h quiet keeps looks tables =
-      stands_behind g e k f s node voter node.tables h Polls quiet (λ view. (refl, λ r. refl)) refl keeps.begun refl refl keeps (record { order = keeps.begun; due = tt; fits = tt; readable = tt }) looks tables
+  -- behind a poll of the next timeout the node stands where it did, whether that is a point or not
+  pub behind_poll : (node : Core S L D K P G C) (voter : State S L D P G C) (h : History S D P G C) → QuietStays g f.same → CoreKeeps g e k f s node h → voting.Keeps g e s.voter voter (voter_of s (after_poll s h))
+      → CoreKeeps g e k f s (record node { voter = voter }) (after_poll s h)
+  behind_poll node voter h quiet keeps = after_poll_by g f s h (λ (at : History S D P G C). voting.Keeps g e s.voter voter (voter_of s at) → CoreKeeps g e k f s (record node { voter = voter }) at)
+      (λ lacks looks. stands_behind g e k f s node voter node.tables h Polls quiet (λ view. (refl, λ r. refl)) refl keeps.begun refl refl keeps
+      (record { order = keeps.begun; due = lacks; fits = tt; readable = tt }) looks keeps.tables)
+      (λ known looks. still_stands g e k f s node voter h keeps looks)
+
+  -- an act that is tried behind it
+  pub tried_after_poll : (Done : History S D P G C → Type 0) (old mid new : Core S L D K P G C) (h : History S D P G C) (before after : List (Action S D P G C)) (answer : Result Acted NodeFault) → is_begun h ≡ true → disk_of mid ≡ disk_of old
+      → WasTried g e k f s is_none Done mid new (after_poll s h) before after answer → WasTried g e k f s is_poll Done old new h before after answer
+  tried_after_poll Done old mid new h before after answer begun same = after_poll_by g f s h (λ (at : History S D P G C). WasTried g e k f s is_none Done mid new at before after answer → WasTried g e k f s is_poll Done old new h before after answer)
+      (λ lacks tried. tried_behind g e k f s is_poll Done old mid new h Polls before after answer refl (record { order = begun; due = lacks; fits = tt; readable = tt }) refl refl same tried)
+      (λ known tried. tried_here g e k f s is_poll Done old mid new h before after answer same tried)
+
+  -- nothing was left to be done behind it
+  pub nothing_after_poll : (Done : History S D P G C → Type 0) (old new : Core S L D K P G C) (h : History S D P G C) (actions : List (Action S D P G C)) → CoreKeeps g e k f s new (after_poll s h) → Done (after_poll s h)
+      → (k.keeps → LeavesOnly (k.calls (disk_of old)) (k.calls (disk_of new)) (λ image. Reads image (map f.artifact (record_of h)))) → WasTried g e k f s is_poll Done old new h actions actions (Ok came.Nothing)
+  nothing_after_poll Done old new h actions keeps none leaves = after_poll_by g f s h (λ (at : History S D P G C). CoreKeeps g e k f s new at → Done at → WasTried g e k f s is_poll Done old new h actions actions (Ok came.Nothing))
+      (λ lacks stands nothing. nothing_behind g e k f s is_poll Done old new h Polls actions refl refl refl stands nothing leaves)
+      (λ known stands nothing. did_nothing g e k f s is_poll Done old new h actions stands nothing leaves)
+      keeps none
 
   -- behind the recorded nullify that is said once more too
   pub behind_repeat : (node : Core S L D K P G C) (voter : State S L D P G C) (h : History S D P G C) (v : Nullify S D P G C) (best : Option (Certificate S D P G C)) (view : ℕ) → QuietStays g f.same
@@ -437,31 +476,27 @@ some_later None m = refl
 some_later (Some x) m = refl
 
 module _ {S D P G C : Type 0} where
-  -- in what happened to a view that was given up it is known when that is due again
-  abbrev KnowsRetry : List (past.Item S D P G C) → Type 0
-  KnowsRetry l = past.has_nullified l ≡ true → IsSome (past.retry l)
-
-  polled_knows : (m : ℕ) (l : List (past.Item S D P G C)) → KnowsRetry (past.polled m ∷ l)
+  polled_knows : (m : ℕ) (l : List (past.Item S D P G C)) → past.RetryIsKnown (past.polled m ∷ l)
   polled_knows m l given_up = subst (λ (b : Bool). IsSome (if b then option_or (past.retry l) (Some m) else past.retry l)) (sym given_up) (some_later (past.retry l) m)
 
-  chosen_knows : (b : Bool) (view : ℕ) (t u : ℕ → List (past.Item S D P G C)) → b ≡ true → KnowsRetry (t view) → KnowsRetry ((if b then t else u) view)
+  chosen_knows : (b : Bool) (view : ℕ) (t u : ℕ → List (past.Item S D P G C)) → b ≡ true → past.RetryIsKnown (t view) → past.RetryIsKnown ((if b then t else u) view)
   chosen_knows true view t u is knows = knows
   chosen_knows false view t u is knows = absurd (false≢true is)
 
-  put_knows : (b : Bool) (m : ℕ) (l : List (past.Item S D P G C)) → b ≡ true → KnowsRetry (if b then past.polled m ∷ l else l)
+  put_knows : (b : Bool) (m : ℕ) (l : List (past.Item S D P G C)) → b ≡ true → past.RetryIsKnown (if b then past.polled m ∷ l else l)
   put_knows true m l is = polled_knows m l
   put_knows false m l is = absurd (false≢true is)
 
   -- behind a look it is known of the current view
-  poll_knows : (v : views.Setup S C) (now : ℕ) (h : List (views.Point S D P G C)) → 0 < current v h → KnowsRetry (seen v (polled now ∷ h) (current v h))
+  poll_knows : (v : views.Setup S C) (now : ℕ) (h : List (views.Point S D P G C)) → 0 < current v h → past.RetryIsKnown (seen v (polled now ∷ h) (current v h))
   poll_knows v now h some =
       let m : ℕ = past.deadline now v.timeout_retry in
       chosen_knows (nat_lt 0 (current v h)) (current v h) (put (current v h) (past.polled m) (seen v h)) (seen v h) (lt-ltb 0 (current v h) some)
       (put_knows (current v h == current v h) m (seen v h (current v h)) (eq-eqb (current v h) (current v h) refl))
 
 module _ {S D P G C : Type 0} (g : Ghosts S D P G C) (f : Formats S D P G C) (s : Setup S D C) (h : History S D P G C) where
-  pub retry_is_known : 0 < current_of s h → RetryIsKnown g f s (Polls ∷ h)
-  retry_is_known some = poll_knows s.voter (latest h) (voter_of s h) some
+  pub retry_is_known : 0 < current_of s h → RetryIsKnown g f s (after_poll s h)
+  retry_is_known some = after_poll_by g f s h (λ (at : History S D P G C). RetryIsKnown g f s at) (λ lacks. poll_knows s.voter (latest h) (voter_of s h) some) (λ known. known)
 
   -- where the current view may not be given up, no nullify is due
   pub none_to_cast : (view : ℕ) → view ≡ current_of s h → (¬ MayGiveUp s.voter (voter_of s h) view) → RetryIsKnown g f s h → NoNullifyToCast g f s h

@@ -20,9 +20,8 @@ use Rattle.voter_rules.specs.VotesDue.{NotarizeIsDue, FinalizeIsDue}
 use Rattle.voter_laws.specs.Matching.{LatchChangesNothing, PollChangesNothing}
 use Rattle.voter_laws.specs.Missing.{IsMissing}
 use Rattle.voter_laws.specs.Steps.{choose_holds, put_holds}
-use Rattle.simplex_member.specs.Allowed.{HasReason}
+use Rattle.simplex_member.specs.Allowed.{HasReason, LatchIsDue}
 use Rattle.simplex_member.specs.Layers.{current_of, known_of, latest, voter_of}
-use Rattle.simplex_member.specs.Member.{LatchIsDue}
 use Rattle.simplex_member.specs.Packet.{Formats}
 use Rattle.simplex_member.specs.Point.{Point, Latches, Polls, PutsOff, History}
 use Rattle.simplex_member.specs.Setup.{Setup, member_of}

@@ -1,5 +1,5 @@
 mod Lasting
-mod Polling
+mod GivenUp
 mod Trying
 mod Making
 mod Casting

@@ -1,5 +1,5 @@
 -- What comes of the votes of all views: a proposal is forwarded, or a construction is made.
-use Rattle.std.proofs.Common.{◌≡◌, ◌≤◌, ◌<◌, ◌∷◌, ◌++◌, ◌∙◌, [], ℕ, Bool, true, List, Option, Some, None, Result, Ok, Err, refl, sym, ap, subst, map, append-nil, ⊎_elim, inl}
+use Rattle.std.proofs.Common.{◌≡◌, ◌≤◌, ◌<◌, ◌∷◌, ◌++◌, ◌∙◌, [], ℕ, Bool, true, List, Option, Some, None, Result, Ok, Err, refl, sym, ap, subst, map, append-nil, ⊎_elim}
 use Rattle.std.specs.Prelude.{IfOk, IfSome, OnOk, MatchOption, option_map, IsSome}
 use Rattle.std.proofs.lemmas.List.Elements.{All-cons, All-nil}
 use Rattle.types_core.specs.declared.proposal.Proposal.{Proposal}
@@ -49,7 +49,7 @@ use Rattle.simplex_member.specs.Refusals.{HasNoneLike}
 use Rattle.simplex_member.specs.Setup.{Setup, owner_of}
 use Rattle.node_core.specs.Learning.{IsUnknown, first_of}
 use Rattle.node_outbox.specs.Handing.{AddsDeeds, both_more, hands_as, nothing_more}
-use Rattle.node_requests.specs.Asking.{BringsOn}
+use Rattle.node_requests.specs.Onward.{is_some_list}
 use Rattle.node_requests.specs.declared.acted.Acted.{Acted}
 use Rattle.node_requests.specs.declared.acted.Acted.TheVariants as came
 use Rattle.node_core.specs.declared.node_state.Core.{Core}
@@ -241,9 +241,9 @@ module _ {S L D P G C K : Type 0} (g : Ghosts S D P G C) (e : elector.Ghosts L S
       left
 
   -- one point that is due was taken
-  pub tried_one : (p : Point S D P G C) (before after : List (Action S D P G C)) (answer : Result Acted NodeFault) → is_act p ≡ true → BringsOn g f s h p → IfOk answer (λ done. done ≡ came.Did) → OnOk answer (IsTaken g e k f s new h p before after)
+  pub tried_one : (p : Point S D P G C) (before after : List (Action S D P G C)) (answer : Result Acted NodeFault) → is_act p ≡ true → IfOk answer (λ done. done ≡ came.Did) → OnOk answer (IsTaken g e k f s new h p before after)
       → (k.keeps → LeavesOnly (k.calls (disk_of old)) (k.calls (disk_of new)) (IsLeftBy g f s h p)) → WasTried g e k f s is_kind Done old new h before after answer
-  tried_one p before after (Ok done) act brings did taken leaves = record {
+  tried_one p before after (Ok done) act did taken leaves = record {
     ok = subst (λ (a : Acted). ComesTo g e k f s is_kind Done new h before after a) (sym did) (record {
       points = p ∷ [];
       end = p ∷ h;
@@ -253,11 +253,11 @@ module _ {S L D P G C K : Type 0} (g : Ghosts S D P G C) (e : elector.Ghosts L S
         keeps = taken.keeps;
         acts = hands_as f before after _ _ (append-nil (deeds_of g f s h p)) taken.acts;
       };
-      some = inl brings;
+      some = is_some_list p [];
     });
     any_moment = λ it. weaker (IsLeftByActs g f s h) (leaves it) (λ image left. left_by_act p image act left);
   }
-  tried_one p before after (Err why) act brings did taken leaves = record { ok = tt; any_moment = λ it. weaker (IsLeftByActs g f s h) (leaves it) (λ image left. left_by_act p image act left) }
+  tried_one p before after (Err why) act did taken leaves = record { ok = tt; any_moment = λ it. weaker (IsLeftByActs g f s h) (leaves it) (λ image left. left_by_act p image act left) }
 
   -- nothing was left to be done
   pub tried_none : (actions : List (Action S D P G C)) → Done h → CoreKeeps g e k f s new h → (k.keeps → LeavesOnly (k.calls (disk_of old)) (k.calls (disk_of new)) (λ image. Reads image (map f.artifact (record_of h))))

@@ -1,6 +1,6 @@
 -- Acts of the node's own, one behind the other, until nothing is due.
-use Rattle.std.proofs.Common.{◌≡◌, ◌⊎◌, ⊎_elim, ℕ, Bool, true, List, [], ◌∷◌, ◌++◌, None, Result, Ok, Err, map, refl, sym, subst}
-use Rattle.std.specs.Prelude.{All, IfOk, OnOk}
+use Rattle.std.proofs.Common.{◌≡◌, ◌⊎◌, ⊎_elim, ℕ, Bool, true, List, [], ◌∷◌, ◌++◌, None, Result, Ok, Err, map, refl, sym, subst, ◌+◌, ◌≤◌, length, length-append, arith}
+use Rattle.std.specs.Prelude.{◌≢◌, ◌-◌, ◌^◌, ◌<◌, All, IfOk, OnOk}
 use Rattle.std.proofs.lemmas.List.Elements.{All-append, All-head, All-nil, All-tail, All-weaker}
 use Rattle.types_core.specs.declared.scheme.Scheme.{Ghosts}
 use Rattle.voter_history.specs.declared.timeout_reason.TimeoutReason.{TimeoutReason}
@@ -13,9 +13,10 @@ use Rattle.journal_single.specs.Moments.{and_then, weaker}
 use Rattle.journal_single.specs.Record.{Reads}
 use Rattle.simplex_member.specs.declared.action.Action.{Action}
 use Rattle.simplex_member.specs.declared.fault.NodeFault.{NodeFault}
-use Rattle.simplex_member.specs.Allowed.{AskIsDue}
+use Rattle.simplex_member.specs.Allowed.{AskIsDue, LatchIsDue}
 use Rattle.simplex_member.specs.Deeds.{all_deeds}
-use Rattle.simplex_member.specs.Member.{Goes, LatchIsDue, NoneDue}
+use Rattle.simplex_member.specs.Doing.{ActsEndAnyhow}
+use Rattle.simplex_member.specs.Member.{Goes, NoneDue}
 use Rattle.simplex_member.specs.Packet.{Formats}
 use Rattle.simplex_member.specs.Point.{Point, AreActs, History, is_act}
 use Rattle.simplex_member.specs.Recorded.{record_of}
@@ -83,7 +84,7 @@ module _ {S L D P G C K : Type 0} (g : Ghosts S D P G C) (e : elector.Ghosts L S
       points = none.points ++ did.points;
       end = did.end;
       acted = acted_behind mid new h none.end did.end none.points did.points before between after none.acted did.acted;
-      some = on_behind g f s h none.end none.points did.points none.acted.goes did.some;
+      some = on_behind none.points did.points did.some;
     }
     comes_behind (Ok came.Nothing) more = record {
       points = none.points ++ more.points;
@@ -156,37 +157,44 @@ module _ {S D P G C : Type 0} (g : Ghosts S D P G C) (f : Formats S D P G C) (s 
 
 -- ---- one act after the other
 
+-- behind so many points some more are one more
+one_longer : {X : Type 0} (count : ℕ) (xs ys : List X) → count ≤ length xs → ys ≢ [] → count + 1 ≤ length (xs ++ ys)
+one_longer count xs [] many some = absurd (some refl)
+one_longer count xs (y ∷ ys) many some = let both = length-append xs (y ∷ ys) in omega (arith, many, both)
+
 module _ {S L D P G C K : Type 0} (g : Ghosts S D P G C) (e : elector.Ghosts L S D P G C) (k : disk.Ghosts K) (f : Formats S D P G C) (s : Setup S D C) where
-  -- points were gone through so far, or none
-  pub record HasGone (new : Core S L D K P G C) (h : History S D P G C) (before after : List (Action S D P G C)) : Type 0 where
+  -- points were gone through so far, at least so many
+  pub record HasGone (new : Core S L D K P G C) (h : History S D P G C) (count : ℕ) (before after : List (Action S D P G C)) : Type 0 where
     pub points : List (Point S D P G C)
     pub end : History S D P G C
     pub acted : HasActed g e k f s new h points end before after
+    pub many : count ≤ length points
 
-  -- acts were done so far
-  pub record ActsSoFar (old new : Core S L D K P G C) (h : History S D P G C) (before after : List (Action S D P G C)) : Type 0 where
-    pub did : HasGone new h before after
+  -- so many acts were done so far
+  pub record ActsSoFar (old new : Core S L D K P G C) (h : History S D P G C) (count : ℕ) (before after : List (Action S D P G C)) : Type 0 where
+    pub did : HasGone new h count before after
     pub any_moment : k.keeps → LeavesOnly (k.calls (disk_of old)) (k.calls (disk_of new)) (IsLeftByActs g f s h)
 
   -- at first none was
   pub none_acted : (node : Core S L D K P G C) (h : History S D P G C) (actions : List (Action S D P G C)) → CoreKeeps g e k f s node h
-      → (k.keeps → LeavesOnly (k.calls (disk_of node)) (k.calls (disk_of node)) (λ image. Reads image (map f.artifact (record_of h)))) → ActsSoFar node node h actions actions
+      → (k.keeps → LeavesOnly (k.calls (disk_of node)) (k.calls (disk_of node)) (λ image. Reads image (map f.artifact (record_of h)))) → ActsSoFar node node h 0 actions actions
   none_acted node h actions keeps rests = record {
-    did = record { points = []; end = h; acted = record { own = All-nil (λ (p : Point S D P G C). is_act p ≡ true); goes = refl; keeps = keeps; acts = nothing_more f actions } };
+    did = record { points = []; end = h; acted = record { own = All-nil (λ (p : Point S D P G C). is_act p ≡ true); goes = refl; keeps = keeps; acts = nothing_more f actions }; many = omega arith };
     any_moment = λ it. weaker (IsLeftByActs g f s h) (rests it) (λ image reads. ([], h, All-nil (λ (p : Point S D P G C). is_act p ≡ true), refl, reads));
   }
 
-  module _ (old mid new : Core S L D K P G C) (h : History S D P G C) (before between after : List (Action S D P G C)) (far : ActsSoFar old mid h before between) where
+  module _ (old mid new : Core S L D K P G C) (h : History S D P G C) (count : ℕ) (before between after : List (Action S D P G C)) (far : ActsSoFar old mid h count before between) where
     so_far : HasActed g e k f s mid h far.did.points far.did.end before between
     so_far = far.did.acted
 
     left_so_far : (k.keeps → LeavesOnly (k.calls (disk_of mid)) (k.calls (disk_of new)) (IsLeftByActs g f s far.did.end)) → k.keeps → LeavesOnly (k.calls (disk_of old)) (k.calls (disk_of new)) (IsLeftByActs g f s h)
     left_so_far = left_through g e k f s old mid new h far.did.end far.did.points so_far.own so_far.goes far.any_moment
 
-    did_more : DidSomething g e k f s new far.did.end between after → HasGone new h before after
+    did_more : DidSomething g e k f s new far.did.end between after → HasGone new h (count + 1) before after
     did_more more = record {
       points = far.did.points ++ more.points;
       end = more.end;
+      many = one_longer count far.did.points more.points far.did.many more.some;
       acted = acted_behind g e k f s mid new h far.did.end more.end far.did.points more.points before between after so_far more.acted;
     }
 
@@ -209,30 +217,40 @@ module _ {S L D P G C K : Type 0} (g : Ghosts S D P G C) (e : elector.Ghosts L S
     settled_behind : {A : Type 0} (answer : Result A NodeFault) → WasSettled g e k f s mid new far.did.end between after answer → WasSettled g e k f s old new h before after answer
     settled_behind answer settled = record { ok = settled_ok answer settled.ok; any_moment = left_so_far settled.any_moment }
 
-module _ {S L D P G C K : Type 0} {g : Ghosts S D P G C} {e : elector.Ghosts L S D P G C} {k : disk.Ghosts K} {f : Formats S D P G C} {s : Setup S D C} {old mid new : Core S L D K P G C} {h : History S D P G C} {before between after : List (Action S D P G C)} where
+module _ {S L D P G C K : Type 0} {g : Ghosts S D P G C} {e : elector.Ghosts L S D P G C} {k : disk.Ghosts K} {f : Formats S D P G C} {s : Setup S D C} {old mid new : Core S L D K P G C} {h : History S D P G C} {count : ℕ} {before between after : List (Action S D P G C)} where
   -- one act more
-  pub one_acted : {acted : Acted} → ActsSoFar g e k f s old mid h before between → acted ≡ came.Did
-      → ((at : History S D P G C) → CoreKeeps g e k f s mid at → WasTried g e k f s is_silent (NoneDue g f s) mid new at between after (Ok acted)) → ActsSoFar g e k f s old new h before after
+  pub one_acted : {acted : Acted} → ActsSoFar g e k f s old mid h count before between → acted ≡ came.Did
+      → ((at : History S D P G C) → CoreKeeps g e k f s mid at → WasTried g e k f s is_silent (NoneDue g f s) mid new at between after (Ok acted)) → ActsSoFar g e k f s old new h (count + 1) before after
   one_acted {acted} far is next =
       let tried = next far.did.end far.did.acted.keeps in
       let more : DidSomething g e k f s new far.did.end between after = subst (λ (a : Acted). ComesTo g e k f s is_silent (NoneDue g f s) new far.did.end between after a) is tried.ok in
-      record { did = did_more g e k f s old mid new h before between after far more; any_moment = left_so_far g e k f s old mid new h before between after far tried.any_moment }
+      record { did = did_more g e k f s old mid new h count before between after far more; any_moment = left_so_far g e k f s old mid new h count before between after far tried.any_moment }
 
   -- one failed
-  pub one_failed : {A : Type 0} {why : NodeFault} (answer : Result A NodeFault) → answer ≡ Err why → ActsSoFar g e k f s old mid h before between
+  pub one_failed : {A : Type 0} {why : NodeFault} (answer : Result A NodeFault) → answer ≡ Err why → ActsSoFar g e k f s old mid h count before between
       → ((at : History S D P G C) → CoreKeeps g e k f s mid at → WasTried g e k f s is_silent (NoneDue g f s) mid new at between after (Err why)) → WasSettled g e k f s old new h before after answer
   one_failed {A} {why} answer is far next =
       let tried = next far.did.end far.did.acted.keeps in
       subst (λ (r : Result A NodeFault). WasSettled g e k f s old new h before after r) (sym is)
-      (record { ok = tt; any_moment = left_so_far g e k f s old mid new h before between after far tried.any_moment })
+      (record { ok = tt; any_moment = left_so_far g e k f s old mid new h count before between after far tried.any_moment })
 
   -- of none something was due any more, and the node settled
-  pub nothing_acted : {acted : Acted} {two : Core S L D K P G C} {more : List (Action S D P G C)} {A : Type 0} {answer : Result A NodeFault} → ActsSoFar g e k f s old mid h before between → acted ≡ came.Nothing
+  pub nothing_acted : {acted : Acted} {two : Core S L D K P G C} {more : List (Action S D P G C)} {A : Type 0} {answer : Result A NodeFault} → ActsSoFar g e k f s old mid h count before between → acted ≡ came.Nothing
       → ((at : History S D P G C) → CoreKeeps g e k f s mid at → WasTried g e k f s is_silent (NoneDue g f s) mid two at between more (Ok acted))
       → ((at : History S D P G C) → CoreKeeps g e k f s two at → NoneDue g f s at → WasSettled g e k f s two new at more after answer) → WasSettled g e k f s old new h before after answer
   nothing_acted {acted} {two} {more} {A} {answer} far is next last =
       let tried = next far.did.end far.did.acted.keeps in
       let none : DidNothing g e k f s is_silent (NoneDue g f s) two far.did.end between more = subst (λ (a : Acted). ComesTo g e k f s is_silent (NoneDue g f s) two far.did.end between more a) is tried.ok in
-      let here : ActsSoFar g e k f s mid two far.did.end between more = record { did = record { points = none.points; end = none.end; acted = none.acted }; any_moment = tried.any_moment } in
-      settled_behind g e k f s old mid new h before between after far answer
-      (settled_behind g e k f s mid two new far.did.end between more after here answer (last none.end none.acted.keeps none.none))
+      let here : ActsSoFar g e k f s mid two far.did.end 0 between more = record { did = record { points = none.points; end = none.end; acted = none.acted; many = omega arith }; any_moment = tried.any_moment } in
+      settled_behind g e k f s old mid new h count before between after far answer
+      (settled_behind g e k f s mid two new far.did.end 0 between more after here answer (last none.end none.acted.keeps none.none))
+
+-- where a history leads here, acts end before a number of 128 bits is counted through
+module _ {S L D P G C K : Type 0} {g : Ghosts S D P G C} {e : elector.Ghosts L S D P G C} {k : disk.Ghosts K} {f : Formats S D P G C} {s : Setup S D C} {old mid : Core S L D K P G C} {h : History S D P G C} {before between : List (Action S D P G C)} where
+  pub acts_ended : (count : ℕ) → 2 ^ 128 - 1 ≤ count → CoreKeeps g e k f s old h → ActsSoFar g e k f s old mid h count before between → 0 < g.size s.voter.scheme → ActsEndAnyhow g f s → ⊥
+  acts_ended count all keeps far some law =
+      let lets = keeps.set_up.ends in
+      let few = law h far.did.end far.did.points lets.members some lets.acts_end keeps.allowed far.did.acted.own far.did.acted.goes in
+      let many = far.did.many in
+      let small = lets.few in
+      omega (arith, few, many, all, small)

@@ -1,5 +1,5 @@
 -- Where a node stands behind what it asked for, and behind what it learnt of leaders.
-use Rattle.std.proofs.Common.{◌≡◌, ◌∷◌, ◌∙◌, [], inl, Bool, true, false, List, Result, map, refl, sym, ap, subst}
+use Rattle.std.proofs.Common.{◌≡◌, ◌∷◌, ◌∙◌, [], Bool, true, false, List, Result, map, refl, sym, ap, subst}
 use Rattle.std.proofs.lemmas.List.Elements.{All-cons, All-head, All-nil, All-tail, All-weaker}
 use Rattle.std.proofs.lemmas.Result.{IfOk-weaker, on_ok_weaker}
 use Rattle.std.specs.Prelude.{All, IfOk, OnOk}
@@ -13,7 +13,6 @@ use Rattle.journal_single.specs.declared.disk.Disk as disk
 use Rattle.journal_single.specs.Disk.{LeavesOnly}
 use Rattle.journal_single.specs.Moments.{weaker}
 use Rattle.journal_single.specs.Record.{Reads}
-use Rattle.voter_laws.specs.Matching.{PollChangesNothing}
 use Rattle.simplex_state.specs.declared.state.State.{State}
 use Rattle.simplex_state.specs.State as voting
 use Rattle.simplex_resolver.specs.Keeps as repairing
@@ -33,7 +32,7 @@ use Rattle.simplex_member.specs.Deeds.{Deed}
 use Rattle.simplex_member.specs.Layers.{finalized_of, is_begun, may_enter, repair_of, voter_of}
 use Rattle.simplex_member.specs.Member.{EndsWith, Goes, NoneDue}
 use Rattle.simplex_member.specs.Packet.{Formats}
-use Rattle.simplex_member.specs.Point.{Point, Asks, Latches, Leads, Polls, History, is_act}
+use Rattle.simplex_member.specs.Point.{Point, Asks, Latches, Leads, History, is_act}
 use Rattle.simplex_member.specs.Recorded.{record_of}
 use Rattle.simplex_member.specs.Setup.{Setup, owner_of}
 use Rattle.node_outbox.specs.Handing.{AddsDeeds, nothing_more}
@@ -41,6 +40,7 @@ use Rattle.node_requests.specs.declared.acted.Acted.{Acted}
 use Rattle.node_requests.specs.declared.acted.Acted.TheVariants as came
 use Rattle.node_requests.specs.Asking.{AskerKeeps, ComesToAsk, HasAsked, is_ask, is_none}
 use Rattle.node_requests.specs.Fetching.{ComesToFetch, HasFetched, RepairerKeeps, is_fetch}
+use Rattle.node_requests.specs.Onward.{is_some_list}
 use Rattle.node_requests.specs.Following.{FollowsLeader}
 use Rattle.node_requests.specs.Leading.{NamesLeader, NoLeaderToName}
 use Rattle.node_core.specs.declared.node_state.Core.{Core}
@@ -48,7 +48,6 @@ use Rattle.node_due.specs.Acting.{ComesTo, HasActed, IsLeftByActs, WasSettled, W
 use Rattle.node_core.specs.Keeps.{CoreKeeps, disk_of}
 use Rattle.node_due.specs.NoneDue.{NoLeaderToFollow}
 use Rattle.node_core.specs.Standing.{still-keeps}
-use Rattle.node_due.proofs.Polling.{none_due_behind}
 
 -- what holds of an answer, by what was said of it
 pub if_ok_by : {X E : Type 0} {P Q : X → Type 0} (answer : Result X E) → IfOk answer P → ((x : X) → P x → Q x) → IfOk answer Q
@@ -66,7 +65,7 @@ module _ {S D P G C : Type 0} where
 
   -- so does an ask
   aside : (f : Formats S D P G C) (p : Point S D P G C) → is_ask p ≡ true → IsAside f p
-  aside f Polls is = record { own = refl; never = refl; nothing = λ view. (refl, λ r. refl); begun = λ h. refl; no_record = λ h. refl; no_repair = λ h. refl }
+  aside f (Asks view ask to) is = record { own = refl; never = refl; nothing = λ view. (refl, λ r. refl); begun = λ h. refl; no_record = λ h. refl; no_repair = λ h. refl }
   aside f p is = record { own = cc is; never = cc is; nothing = λ view. (cc is, λ r. cc is); begun = λ h. cc is; no_record = λ h. cc is; no_repair = λ h. cc is }
 
   fetch_is_ask : (p : Point S D P G C) → is_fetch p ≡ true → is_ask p ≡ true
@@ -222,12 +221,12 @@ module _ {S L D P G C K : Type 0} {g : Ghosts S D P G C} {e : elector.Ghosts L S
     end = Latches followed.0 reason.LeaderNullify ∷ h;
     asked = record {
       are_asks = All-cons (λ (p : Point S D P G C). is_ask p ≡ true) (Latches followed.0 reason.LeaderNullify) [] refl (All-nil (λ (p : Point S D P G C). is_ask p ≡ true));
-      goes = (record { order = kept.begun; due = (followed.1.0.there, followed.1.0.counts); fits = tt; readable = tt }, refl);
+      goes = (record { order = kept.begun; due = followed.1.0; fits = tt; readable = tt }, refl);
       voter_is = followed.1.1;
       tables_are = kept.tables;
       acts = nothing_more f actions;
     };
-    some = inl followed.1.0;
+    some = is_some_list (Latches followed.0 reason.LeaderNullify) [];
   }
   follows_ask voter actions came.Nothing none = record {
     points = [];
@@ -267,7 +266,7 @@ module _ {S L D P G C K : Type 0} {g : Ghosts S D P G C} {e : elector.Ghosts L S
       };
       acts = nothing_more f actions;
     };
-    some = inl tt;
+    some = is_some_list (Leads named.0 named.1) [];
   }
     where
       may : Allowed g f s h (Leads named.0 named.1)
@@ -285,28 +284,28 @@ module _ {S L D P G C K : Type 0} {g : Ghosts S D P G C} {e : elector.Ghosts L S
       → WasTried g e k f s is_none (NoLeaderToName s) node (record node { acceptance = votes }) h actions actions answer
   was_led {actions} {answer} votes law named = record { ok = if_ok_by answer named (leads votes actions); any_moment = rests law }
 
-  -- it was said when the node wants to be told the time, behind a look at the next timeout
-  pub was_settled : {A : Type 0} {before after : List (Action S D P G C)} {answer : Result A NodeFault} (voter : State S L D P G C) (last : List (Deed S D P G C))
-      → QuietStays g f.same → LedgerRests g e k f s → PollChangesNothing S D P G C → NoneDue g f s h
-      → OnOk answer (voting.Keeps g e s.voter voter (voter_of s (Polls ∷ h)) × EndsWith g f s (Polls ∷ h) last × AddsDeeds f before after last)
+  -- nothing was due, and it was said when the node wants to be told the time
+  pub was_settled : {A : Type 0} {before after : List (Action S D P G C)} {answer : Result A NodeFault} (voter : State S L D P G C) (last : List (Deed S D P G C)) → LedgerRests g e k f s → NoneDue g f s h
+      → OnOk answer (voting.Keeps g e s.voter voter (voter_of s h) × EndsWith g f s h last × AddsDeeds f before after last)
       → WasSettled g e k f s node (record node { voter = voter }) h before after answer
-  was_settled {A} {before} {after} {answer} voter last quiet law poll none said = record {
+  was_settled {A} {before} {after} {answer} voter last law none said = record {
     ok = on_ok_weaker answer
-        (λ told.
-        let acted = has_acted voter node.tables (Polls ∷ []) (Polls ∷ h) before before quiet (record {
-          are_asks = All-cons (λ (p : Point S D P G C). is_ask p ≡ true) Polls [] refl (All-nil (λ (p : Point S D P G C). is_ask p ≡ true));
-          goes = (record { order = kept.begun; due = tt; fits = tt; readable = tt }, refl);
-          voter_is = told.0;
-          tables_are = kept.tables;
-          acts = nothing_more f before;
-        }) in
-        record {
-          points = Polls ∷ [];
-          end = Polls ∷ h;
-          own = acted.own;
-          goes = acted.goes;
-          none_due = none_due_behind g f s h poll none;
-          keeps = acted.keeps;
+        (λ told. record {
+          points = [];
+          end = h;
+          own = All-nil (λ (p : Point S D P G C). is_act p ≡ true);
+          goes = refl;
+          none_due = none;
+          keeps = record {
+            begun = kept.begun;
+            allowed = kept.allowed;
+            set_up = kept.set_up;
+            voter = told.0;
+            votes = kept.votes;
+            repair = kept.repair;
+            ledger = kept.ledger;
+            tables = kept.tables;
+          };
           last = last;
           wakes = told.1;
           acts = told.2;

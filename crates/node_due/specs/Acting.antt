@@ -2,7 +2,7 @@
 --
 -- Each act takes points that are due, and the node stands behind them all; or nothing of its kind is due where it stands. A crash at any
 -- moment leaves the record at one of these points.
-use Rattle.std.specs.Prelude.{◌≡◌, ◌++◌, ℕ, Bool, true, List, All, Result, IfOk, OnOk}
+use Rattle.std.specs.Prelude.{◌≡◌, ◌≢◌, ◌++◌, ℕ, Bool, true, List, [], All, Result, IfOk, OnOk}
 use Rattle.types_core.specs.declared.scheme.Scheme.{Ghosts}
 use Rattle.types_terms.specs.declared.elector.Elector as elector
 use Rattle.journal_single.specs.declared.disk.Disk as disk
@@ -15,7 +15,6 @@ use Rattle.simplex_member.specs.Packet.{Formats}
 use Rattle.simplex_member.specs.Point.{Point, AreActs, History}
 use Rattle.simplex_member.specs.Setup.{Setup}
 use Rattle.node_outbox.specs.Handing.{AddsDeeds}
-use Rattle.node_requests.specs.Asking.{SomeBringsOn}
 use Rattle.node_requests.specs.declared.acted.Acted.{Acted}
 use Rattle.node_requests.specs.declared.acted.Acted.TheVariants as came
 use Rattle.node_core.specs.declared.node_state.Core.{Core}
@@ -35,12 +34,12 @@ module _ {S L D P G C K : Type 0} (g : Ghosts S D P G C) (e : elector.Ghosts L S
     pub keeps : CoreKeeps g e k f s new end
     pub acts : AddsDeeds f before after (all_deeds g f s h points)
 
-  -- something that was due was done, which brings the node on
+  -- something that was due was done
   pub record DidSomething (new : Core S L D K P G C) (h : History S D P G C) (before after : List (Action S D P G C)) : Type 0 where
     pub points : List (Point S D P G C)
     pub end : History S D P G C
     pub acted : HasActed new h points end before after
-    pub some : SomeBringsOn g f s h points
+    pub some : points ≢ []
 
   -- nothing of a kind was left to be done, behind points of this kind alone, which hand out nothing: this holds where they led
   pub record DidNothing (is_kind : Point S D P G C → Bool) (Done : History S D P G C → Type 0) (new : Core S L D K P G C) (h : History S D P G C) (before after : List (Action S D P G C)) : Type 0 where

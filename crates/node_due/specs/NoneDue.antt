@@ -6,7 +6,7 @@ use Rattle.voter_rules.specs.VotesDue.{NotarizeIsDue, FinalizeIsDue}
 use Rattle.voter_rules.specs.GivingUp.{NullifyIsDue}
 use Rattle.batcher_verifier.specs.History.{forwardable, next_kind}
 use Rattle.simplex_member.specs.Layers.{known_of, latest, stage, voter_of, votes_of, votes_setup, Collected, IsUp}
-use Rattle.simplex_member.specs.Member.{LatchIsDue, RetryIsKnown}
+use Rattle.simplex_member.specs.Allowed.{LatchIsDue, RetryIsKnown}
 use Rattle.simplex_member.specs.Packet.{Formats}
 use Rattle.simplex_member.specs.Point.{History}
 use Rattle.simplex_member.specs.Setup.{Setup, member_of}

@@ -17,13 +17,13 @@ use journal_single::Disk;
 use node_core::Core;
 use node_record::a_ledger_at_rest_leaves_its_record;
 use node_requests::Acted;
-use simplex_member::{Action, NodeFault, Speaks};
+use simplex_member::{Action, NodeFault, Speaks, acts_end};
 use types_core::{Digest, Scheme};
 use types_terms::Elector;
 use voter_laws::a_latch_changes_nothing_due;
 
-/// Does all that is due, and then says when the node wants to be told the time. Acts that are due behind each other are far fewer
-/// than a number counts.
+/// Does all that is due, and then says when the node wants to be told the time. Behind one event nothing is done twice, so acts end
+/// (`acts_end`): long before so many rounds.
 ///
 /// # Errors
 ///
@@ -37,14 +37,18 @@ pub fn settle<S: Scheme<D> + Drop, L: Elector<S, D>, D: Digest, K: Disk>(
     ensures faults { TellsOfDisk K.Disk (disk_of core.old) (disk_of core.new) result }
 {
     a_ledger_at_rest_leaves_its_record::<S, D, K>();
-    'acts: for _ in 0..u64::MAX {
+    acts_end::<S, D>();
+    // The proof takes from the number that there are members.
+    let _members = core.settings.scheme.participants();
+    'acts: for _ in 0..u128::MAX {
         match act(core, out) {
             Ok(Acted::Did) => {}
             Ok(Acted::Nothing) => return say_when(core, out),
             Err(fault) => return Err(fault),
         }
     }
-    Err(NodeFault::Memory)
+    // No node comes here to which a history leads: its acts end before.
+    say_when(core, out)
 }
 
 /// Does the first thing that is due. Where it did nothing, nothing is.

@@ -21,7 +21,6 @@ use node_votes::silent_points_leave_votes;
 use simplex_member::{Action, NodeFault, Speaks};
 use types_core::{Digest, Scheme};
 use types_terms::Elector;
-use voter_laws::a_latch_changes_nothing_due;
 
 /// Asks for the verdicts that are due, or for the notarizations that they wait for.
 ///
@@ -152,8 +151,6 @@ pub(crate) fn say_when<S: Scheme<D> + Drop, L: Elector<S, D>, D: Digest, K: Disk
     ensures faults { TellsOfDisk K.Disk (disk_of core.old) (disk_of core.new) result }
 {
     a_ledger_at_rest_leaves_its_record::<S, D, K>();
-    silent_points_leave_votes::<S, D>();
-    a_latch_changes_nothing_due::<S, D>();
     let silence = silence(core);
     match next_wake(silence, &mut core.voter, &core.tables) {
         Ok(Some(moment)) => hand_out(Action::Wake(moment), out),

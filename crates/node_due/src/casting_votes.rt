@@ -1,19 +1,24 @@
 //! Own votes.
 
-ghost use Rattle.std.specs.Prelude.{◌≡◌, true, IfOk, OnOk};
+ghost use Rattle.std.specs.Prelude.{◌≡◌, ◌∷◌, [], true, None, Some, IfErr, IfOk, OnOk};
 ghost use Rattle.voter_rules.specs.GivingUp.{MayGiveUp, NullifyIsDue};
 ghost use Rattle.node_votes.specs.KeepsVotes.{IsOpenTo};
+ghost use Rattle.simplex_messages.specs.declared.activity.Activity.{Activity};
+ghost use Rattle.simplex_messages.specs.declared.vote.Vote.{Vote};
 ghost use Rattle.simplex_messages.specs.VoteParts.{vote_round};
 ghost use Rattle.journal_single.specs.Disk.{LeavesOnly};
 ghost use Rattle.node_requests.specs.Asking.{is_poll, is_none};
 ghost use Rattle.node_requests.specs.declared.acted.Acted.TheVariants as came;
 ghost use Rattle.voter_history.specs.History.{seen};
 ghost use Rattle.voter_history.specs.Past as past;
-ghost use Rattle.simplex_member.specs.Member.{RetryIsKnown};
+ghost use Rattle.simplex_member.specs.Allowed.{RetryIsKnown};
+ghost use Rattle.simplex_member.specs.declared.fault.NodeFault.TheVariants as step_fault;
+ghost use Rattle.simplex_member.specs.Deeds.{Reports, Sends};
 ghost use Rattle.simplex_member.specs.Layers.{current_of, latest, voter_of};
-ghost use Rattle.simplex_member.specs.Packet.{IsRecordable};
+ghost use Rattle.simplex_member.specs.Packet.{Formats, IsRecordable, of_vote};
 ghost use Rattle.simplex_member.specs.Point.{History, Votes};
 ghost use Rattle.simplex_member.specs.Setup.{Setup};
+ghost use Rattle.node_outbox.specs.Handing.{AddsDeeds};
 ghost use Rattle.node_due.specs.Acting.{WasTried};
 ghost use Rattle.node_due.specs.Ahead.{MayCome, VoterIsAhead};
 ghost use Rattle.node_core.specs.Keeps.{AtOwn, disk_of};
@@ -22,7 +27,7 @@ ghost use Rattle.node_core.specs.Telling.{TellsOfDisk};
 ghost use Rattle.node_core.specs.Taking.{IsLeftBy, IsTaken};
 
 use journal_single::Disk;
-use node_core::{Core, tell_own_vote};
+use node_core::{Core, own_votes_come_free, tell_own_vote};
 use node_inbox::record;
 use node_outbox::{hand_vote_out, send_again, spelled_vote};
 use node_record::{
@@ -36,7 +41,7 @@ use simplex_member::{
     packets_are_read_back, proposals_lie_in_their_views, records_stay_lawful, voters_are_orderly,
     voters_tell_the_record,
 };
-use simplex_messages::Vote;
+use simplex_messages::{Activity, Vote};
 use types_core::{Digest, Scheme, View};
 use types_terms::Elector;
 use voter_history::TimeoutReason;
@@ -61,7 +66,7 @@ pub(crate) fn try_notarize<S: Scheme<D> + Drop, L: Elector<S, D>, D: Digest, K: 
     match core.voter.next_notarize() {
         Some(view) => match core.voter.construct_notarize(view) {
             Ok(Some(vote)) => cast(core, Vote::Notarize(vote), out),
-            Ok(None) => Err(NodeFault::Memory),
+            Ok(None) => Ok(Acted::Nothing),
             Err(_) => Err(NodeFault::Memory),
         },
         None => Ok(Acted::Nothing),
@@ -87,7 +92,7 @@ pub(crate) fn try_finalize<S: Scheme<D> + Drop, L: Elector<S, D>, D: Digest, K: 
     match core.voter.next_finalize() {
         Some(view) => match core.voter.construct_finalize(view) {
             Some(vote) => cast(core, Vote::Finalize(vote), out),
-            None => Err(NodeFault::Memory),
+            None => Ok(Acted::Nothing),
         },
         None => Ok(Acted::Nothing),
     }
@@ -109,7 +114,6 @@ pub(crate) fn try_nullify<S: Scheme<D> + Drop, L: Elector<S, D>, D: Digest, K: D
     voters_are_orderly::<S, D>();
     a_ledger_at_rest_leaves_its_record::<S, D, K>();
     silent_points_leave_votes::<S, D>();
-    quiet_points_leave_the_tables::<S, D>();
     match is_given_up(&mut core.voter, &core.tables) {
         Ok(true) => give_up(core, out),
         Ok(false) => Ok(Acted::Nothing),
@@ -174,6 +178,9 @@ fn repeat_nullify<S: Scheme<D> + Drop, L: Elector<S, D>, D: Digest, K: Disk>(
     let Ok(best) = core.voter.get_best_certificate(alloc) else {
         return Err(NodeFault::Memory);
     };
+    let Some(vote) = core.ledger.recorded().last_nullify() else {
+        return Ok(Acted::Nothing);
+    };
     match core
         .voter
         .construct_nullify(view, TimeoutReason::LeaderTimeout)
@@ -182,9 +189,6 @@ fn repeat_nullify<S: Scheme<D> + Drop, L: Elector<S, D>, D: Digest, K: Disk>(
         Ok(None) => return Ok(Acted::Nothing),
         Err(_) => return Err(NodeFault::Memory),
     }
-    let Some(vote) = core.ledger.recorded().last_nullify() else {
-        return Err(NodeFault::Memory);
-    };
     match send_again(alloc, vote, best, out) {
         Ok(()) => Ok(Acted::Did),
         Err(fault) => Err(fault),
@@ -212,6 +216,7 @@ fn cast<S: Scheme<D> + Drop, L: Elector<S, D>, D: Digest, K: Disk>(
 {
     a_ledger_at_rest_leaves_its_record::<S, D, K>();
     quiet_points_leave_the_tables::<S, D>();
+    own_votes_come_free::<S, D>();
     packets_are_read_back::<S, D>();
     // The proof takes from the number how far it goes.
     let _members = core.settings.scheme.participants();
@@ -224,10 +229,29 @@ fn cast<S: Scheme<D> + Drop, L: Elector<S, D>, D: Digest, K: Disk>(
         Err(fault) => return Err(fault),
     }
     match tell_own_vote(vote, &mut core.acceptance) {
-        Ok(report) => match hand_vote_out(bytes, report, out) {
+        Ok(report) => match hand_cast_out(bytes, report, out) {
             Ok(()) => Ok(Acted::Did),
             Err(fault) => Err(fault),
         },
         Err(fault) => Err(fault),
+    }
+}
+
+/// Sends an own vote's bytes to all, and reports it, where the votes of its view hadn't known it before.
+fn hand_cast_out<S: Scheme<D>, D: Digest>(
+    bytes: Vec<u8>,
+    report: Option<Activity<S, D>>,
+    out: &mut Vec<Action<S, D>>,
+) -> Result<(), NodeFault>
+    ensures done { OnOk result ((f : Formats S D S.PublicKey S.Signature S.Certificate)
+        (vote : Vote S D S.PublicKey S.Signature S.Certificate) (told : Activity S D S.PublicKey S.Signature S.Certificate)
+        → report ≡ Some told
+        → bytes.items ≡ f.packet (of_vote vote)
+        → AddsDeeds f out.old.items out.new.items (Sends None (of_vote vote) ∷ Reports told ∷ [])) }
+    ensures fault { IfErr result (λ why. why ≡ step_fault.Memory) }
+{
+    match report {
+        Some(report) => hand_vote_out(bytes, report, out),
+        None => Ok(()),
     }
 }

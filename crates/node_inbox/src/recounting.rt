@@ -1,62 +1,46 @@
 //! What the votes of all views are told of what the record has.
 
-ghost use Rattle.std.specs.Prelude.{◌≡◌, Bool, OnOk, is_some};
+ghost use Rattle.std.specs.Prelude.{◌≡◌, Bool, OnOk};
 ghost use Rattle.types_core.specs.Positions.{HasRoom};
 ghost use Rattle.messages_certificates.specs.Artifact.{certificate_artifact};
 ghost use Rattle.messages_certificates.specs.Certificate.{certificate_round};
-ghost use Rattle.simplex_messages.specs.VoteParts.{vote_artifact, vote_round};
-ghost use Rattle.simplex_record.specs.Lawful.{Verifies};
+ghost use Rattle.simplex_messages.specs.VoteParts.{vote_artifact};
+ghost use Rattle.batcher_verifier.specs.declared.batcher_fault.BatcherFault.TheVariants as batcher_fault;
 ghost use Rattle.node_votes.specs.KeepsVotes as accepting;
-ghost use Rattle.simplex_member.specs.Layers.{floor_of};
+ghost use Rattle.node_votes.specs.KeepsVotes.{IsNewVote};
 ghost use Rattle.simplex_member.specs.Point.{Found};
-ghost use Rattle.simplex_member.specs.Setup.{owner_of};
+ghost use Rattle.node_inbox.specs.Recounting.{AtSome};
 
+use batcher_verifier::BatcherFault;
 use messages_certificates::Certificate;
 use node_votes::Acceptance;
-use simplex_messages::{Activity, Vote};
+use simplex_messages::Vote;
 use std::alloc::AllocError;
-use types_core::{Digest, Scheme, View, Viewable};
+use types_core::{Digest, Scheme};
 
-/// Tells the votes of all views of an own vote that the record has, at this floor: before what need not be kept behind it is dropped.
+/// Tells the votes of all views of an own vote that the record has, and that is new to them: before what need not be kept behind it is
+/// dropped.
 ///
 /// # Errors
 ///
-/// `AllocError` where memory ran out; and where an accepted vote stands in its way from the floor on, as in no lawful record.
+/// `AllocError` where memory ran out.
 pub fn recount_vote<S: Scheme<D> + Drop, D: Digest>(
     acceptance: &mut Acceptance<S, D>,
-    floor: View,
     vote: Vote<S, D>,
 ) -> Result<(), AllocError>
+    requires { AtSome S.Scheme D.PartialEq.eq acceptance.old (λ s h. IsNewVote S.Scheme s h vote) }
     ensures { OnOk result (accepting.AtEach S.Scheme D.PartialEq.eq acceptance.old (λ s h.
         (taken : Bool)
-        → floor ≡ floor_of s h
-        → HasRoom s.voter.length (vote_round vote).view
-        → Verifies (S.attests s.voter.scheme) (S.certifies s.voter.scheme) (owner_of s) (vote_artifact vote)
+        → IsNewVote S.Scheme s h vote
         → accepting.KeepsAhead S.Scheme D.PartialEq.eq s acceptance.new h (Found (vote_artifact vote) taken))) }
 {
-    let view = vote.view();
     match acceptance.cast(vote) {
-        Ok(report) => {
-            if is_told(report) {
-                return Ok(());
-            }
-            if view < floor {
-                return Ok(());
-            }
-            Err(AllocError)
-        }
-        Err(_) => Err(AllocError),
+        Ok(_) => Ok(()),
+        Err(fault) => Err(memory_alone(fault)),
     }
 }
 
-/// Whether there is a report, which is let go.
-fn is_told<S: Scheme<D>, D: Digest>(report: Option<Activity<S, D>>) -> bool
-    ensures { result ≡ is_some report }
-{
-    report.is_some()
-}
-
-/// Tells the votes of all views of a certificate that the record has.
+/// Tells the votes of all views of a certificate of the epoch that the record has.
 ///
 /// # Errors
 ///
@@ -65,6 +49,7 @@ pub fn recount_certificate<S: Scheme<D> + Drop, D: Digest>(
     acceptance: &mut Acceptance<S, D>,
     certificate: &Certificate<S, D>,
 ) -> Result<(), AllocError>
+    requires { AtSome S.Scheme D.PartialEq.eq acceptance.old (λ s h. (certificate_round certificate.now).epoch ≡ s.voter.epoch) }
     ensures { OnOk result (accepting.AtEach S.Scheme D.PartialEq.eq acceptance.old (λ s h.
         (taken : Bool)
         → HasRoom s.voter.length (certificate_round certificate.now).view
@@ -72,6 +57,18 @@ pub fn recount_certificate<S: Scheme<D> + Drop, D: Digest>(
 {
     match acceptance.record(certificate) {
         Ok(()) => Ok(()),
-        Err(_) => Err(AllocError),
+        Err(fault) => Err(memory_alone(fault)),
+    }
+}
+
+/// Want of memory, where the votes of a view refuse what is recorded: they refuse it for nothing else.
+fn memory_alone(fault: BatcherFault) -> AllocError
+    requires { fault ≡ batcher_fault.Memory }
+{
+    match fault {
+        BatcherFault::Memory => AllocError,
+        BatcherFault::WrongRound | BatcherFault::OtherLeader | BatcherFault::Contradicts => {
+            unreachable!()
+        }
     }
 }

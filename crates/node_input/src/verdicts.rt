@@ -1,20 +1,29 @@
 //! The application's verdicts on what is notarized.
 
-ghost use Rattle.std.specs.Prelude.{◌≡◌, ◌≢◌, false, IfErr, OnOk, IsErrOf};
+ghost use Rattle.std.specs.Prelude.{◌≡◌, ◌≢◌, ◌∷◌, [], false, None, Some, if◌then◌else◌, IfErr, OnOk, IsErrOf};
+ghost use Rattle.types_core.specs.Positions.{HasRoom};
+ghost use Rattle.messages_certificates.specs.Certificate.{any_certificate_spelling, as_notarization};
+ghost use Rattle.messages_certificates.specs.ProposalCertificate.{Notarization};
+ghost use Rattle.simplex_messages.specs.declared.activity.Activity.TheVariants as activity;
+ghost use Rattle.simplex_resolver.specs.Keeps as repairing;
+ghost use Rattle.simplex_resolver.specs.RepairHistory as items;
 ghost use Rattle.journal_single.specs.Disk.{LeavesOnly, counted};
 ghost use Rattle.simplex_member.specs.Allowed.{Allowed};
 ghost use Rattle.simplex_member.specs.Asked.{IsAwaited};
 ghost use Rattle.simplex_member.specs.declared.fault.NodeFault.{NodeFault};
 ghost use Rattle.simplex_member.specs.declared.fault.NodeFault.TheVariants as step_fault;
+ghost use Rattle.simplex_member.specs.Deeds.{Reports};
+ghost use Rattle.simplex_member.specs.Packet.{Formats};
 ghost use Rattle.simplex_member.specs.Point.{History, Judged};
 ghost use Rattle.simplex_member.specs.Setup.{Setup};
+ghost use Rattle.node_outbox.specs.Handing.{AddsDeeds};
 ghost use Rattle.node_core.specs.Keeps.{AtOwn, disk_of};
 ghost use Rattle.node_core.specs.Taking.{IsLeftBy, IsTaken};
 ghost use Rattle.node_input.specs.Verdicts.{RecordIsAhead};
 
 use journal_single::Disk;
-use messages_certificates::Artifact;
-use node_core::{Core, enter, give_verdict, judge_repair};
+use messages_certificates::{Artifact, Notarization};
+use node_core::{Core, enter, judge_repair};
 use node_inbox::record;
 use node_outbox::report_verdict;
 use node_record::quiet_points_leave_the_tables;
@@ -22,6 +31,8 @@ use node_votes::silent_points_leave_votes;
 use simplex_member::{
     Action, NodeFault, Speaks, awaited_verdicts_may_be_taken, packets_are_read_back,
 };
+use simplex_resolver::State as Repair;
+use std::alloc::Global;
 use types_core::{Digest, Round, Scheme, View};
 use types_terms::Elector;
 
@@ -89,9 +100,36 @@ fn learn_verdict<S: Scheme<D> + Drop, L: Elector<S, D>, D: Digest, K: Disk>(
     let alloc = core.settings.alloc;
     let now = core.tables.moment();
     let was = core.voter.current_view();
-    let notarization = give_verdict(alloc, now, view, ok, &mut core.voter)?;
-    report_verdict(alloc, &notarization, ok, out)?;
-    judge_repair(alloc, notarization, ok, &mut core.repair)?;
+    let Ok(notarization) = core.voter.certified(alloc, now, view, ok) else {
+        return Err(NodeFault::Memory);
+    };
+    hand_on(alloc, notarization, ok, &mut core.repair, out)?;
     enter(&core.voter, &mut core.acceptance)?;
     core.relay_at_entry(was, out)
+}
+
+/// Reports the notarization that a verdict is on, where that is true, and tells the repair of both; where the voter has none, nothing.
+fn hand_on<S: Scheme<D>, D: Digest>(
+    alloc: Global,
+    notarization: Option<Notarization<S, D>>,
+    ok: bool,
+    repair: &mut Repair,
+    out: &mut Vec<Action<S, D>>,
+) -> Result<(), NodeFault>
+    ensures acts { OnOk result ((f : Formats S D S.PublicKey S.Signature S.Certificate) (c : Notarization S D S.PublicKey S.Signature S.Certificate)
+        → notarization ≡ Some c
+        → AddsDeeds f out.old.items out.new.items (if ok then Reports (activity.Certification c) ∷ [] else [])) }
+    ensures told { OnOk result ((c : Notarization S D S.PublicKey S.Signature S.Certificate)
+        → notarization ≡ Some c
+        → repairing.AtEach repair.old (λ views h.
+        HasRoom views c.proposal.round.view
+        → repairing.Keeps views repair.new
+        (items.Judged c.proposal.round.view (any_certificate_spelling D.spelling S.Certificate.spelling (as_notarization c)) ok ∷ h))) }
+    ensures fault { IfErr result (λ why. why ≡ step_fault.Memory) }
+{
+    let Some(notarization) = notarization else {
+        return Ok(());
+    };
+    report_verdict(alloc, &notarization, ok, out)?;
+    judge_repair(alloc, notarization, ok, repair)
 }

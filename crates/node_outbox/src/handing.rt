@@ -1,6 +1,6 @@
 //! What is handed out.
 
-ghost use Rattle.std.specs.Prelude.{◌≡◌, ◌∷◌, [], map, option_to_list, if◌then◌else◌, IfErr, OnOk};
+ghost use Rattle.std.specs.Prelude.{◌≡◌, ◌<◌, ◌∷◌, [], false, map, option_to_list, if◌then◌else◌, None, IfErr, IsOk, OnOk, vec_capacity, vec_len};
 ghost use Rattle.simplex_messages.specs.declared.activity.Activity.TheVariants as activity;
 ghost use Rattle.simplex_member.specs.declared.fault.NodeFault.TheVariants as step_fault;
 ghost use Rattle.simplex_member.specs.Deeds.{Blocks, Deed, Finalizes, IsAction, IsPlan, Reports, own_way};
@@ -18,7 +18,7 @@ use types_terms::Plan;
 ///
 /// # Errors
 ///
-/// [`NodeFault::Memory`].
+/// [`NodeFault::Memory`], where no room was made for it before.
 pub fn hand_out<S: Scheme<D>, D: Digest>(
     action: Action<S, D>,
     out: &mut Vec<Action<S, D>>,
@@ -27,6 +27,7 @@ pub fn hand_out<S: Scheme<D>, D: Digest>(
         (deed : Deed S D S.PublicKey S.Signature S.Certificate)
         → IsAction f action deed
         → AddsDeeds f out.old.items out.new.items (deed ∷ [])) }
+    ensures without_memory { vec_len out.old < vec_capacity out.old → IsOk result }
     ensures fault { IfErr result (λ why. why ≡ step_fault.Memory) }
 {
     let Ok(()) = out.push(action) else {
@@ -46,6 +47,7 @@ pub fn report_if<S: Scheme<D>, D: Digest>(
 ) -> Result<(), NodeFault>
     ensures done { OnOk result ((f : Formats S D S.PublicKey S.Signature S.Certificate)
         → AddsDeeds f out.old.items out.new.items (map Reports (option_to_list report))) }
+    ensures without_memory { report ≡ None → IsOk result }
     ensures fault { IfErr result (λ why. why ≡ step_fault.Memory) }
 {
     match report {
@@ -65,6 +67,7 @@ pub fn hand_out_final<S: Scheme<D>, D: Digest>(
 ) -> Result<(), NodeFault>
     ensures done { OnOk result ((f : Formats S D S.PublicKey S.Signature S.Certificate)
         → AddsDeeds f out.old.items out.new.items (map Finalizes (option_to_list finalized))) }
+    ensures without_memory { finalized ≡ None → IsOk result }
     ensures fault { IfErr result (λ why. why ≡ step_fault.Memory) }
 {
     match finalized {
@@ -84,6 +87,7 @@ pub fn block_all<S: Scheme<D>, D: Digest>(
 ) -> Result<(), NodeFault>
     ensures done { OnOk result
         ((f : Formats S D S.PublicKey S.Signature S.Certificate) → AddsDeeds f out.old.items out.new.items (map Blocks members.now)) }
+    ensures without_memory { members.now ≡ [] → IsOk result }
     ensures fault { IfErr result (λ why. why ≡ step_fault.Memory) }
 {
     for member in members {
@@ -108,6 +112,7 @@ pub fn report_verdict<S: Scheme<D>, D: Digest>(
 ) -> Result<(), NodeFault>
     ensures acts { OnOk result ((f : Formats S D S.PublicKey S.Signature S.Certificate)
         → AddsDeeds f out.old.items out.new.items (if ok then Reports (activity.Certification notarization.now) ∷ [] else [])) }
+    ensures without_memory { ok ≡ false → IsOk result }
     ensures fault { IfErr result (λ why. why ≡ step_fault.Memory) }
 {
     if !ok {

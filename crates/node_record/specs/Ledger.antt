@@ -1,10 +1,12 @@
 -- What a member has recorded, and that it stands on a disk.
-use Rattle.std.specs.Prelude.{◌≡◌, ℕ, false, List, map, All}
+use Rattle.std.specs.Prelude.{◌≡◌, ◌⊎◌, ℕ, false, List, map, All}
 use Rattle.types_core.specs.Subject.{Statement}
 use Rattle.messages_certificates.specs.declared.artifact.Artifact.{Artifact}
 use Rattle.simplex_record.specs.declared.owner.Owner.{Owner}
 use Rattle.simplex_record.specs.Lawful.{IsLawful, IsRefusedAt}
 use Rattle.journal_single.specs.declared.disk.Disk as disk
+use Rattle.journal_single.specs.declared.fault.JournalFault.{JournalFault}
+use Rattle.journal_single.specs.declared.fault.JournalFault.TheVariants as journal_fault
 use Rattle.journal_single.specs.Disk.{MayLeave}
 use Rattle.journal_single.specs.Journal.{IsRecord}
 use Rattle.journal_single.specs.Record.{Reads}
@@ -14,6 +16,10 @@ use Rattle.node_record.specs.Recorded.{HoldsRecord}
 -- the disk that a ledger stands on
 abbrev pub disk_of : {S D K P G C : Type 0} → Ledger S D K P G C → K
 disk_of ledger = ledger.journal.disk
+
+-- a journal may be refused at its opening for this
+abbrev pub IsOpeningFault : JournalFault → Type 0
+IsOpeningFault fault = (fault ≡ journal_fault.Device) ⊎ ((fault ≡ journal_fault.Memory) ⊎ ((place : ℕ) × (fault ≡ journal_fault.Foreign place)))
 
 module _ {S D P G C K : Type 0} (k : disk.Ghosts K) (spelled : Artifact S D P G C → List ℕ) where
   -- this owner has recorded these artifacts, the oldest first, and its disk holds them: a crash leaves nothing else

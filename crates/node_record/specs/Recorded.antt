@@ -1,5 +1,5 @@
 -- What a member has recorded.
-use Rattle.std.specs.Prelude.{◌≡◌, List, ◌∷◌, ◌++◌, Contains}
+use Rattle.std.specs.Prelude.{◌≡◌, ◌<◌, List, ◌∷◌, ◌++◌, Contains, vec_capacity, vec_len}
 use Rattle.types_core.specs.Subject.{Statement}
 use Rattle.messages_certificates.specs.declared.artifact.Artifact.{Artifact}
 use Rattle.messages_certificates.specs.declared.artifact.Artifact.TheVariants as artifact
@@ -33,6 +33,10 @@ module _ {S D P G C : Type 0} where
     pub artifacts_are : recorded.artifacts.items ≡ xs
     pub standing : kept.Keeps owner.term_length recorded.standing (entries xs)
     pub places : KeepsPlaces recorded.places xs
+
+  -- room was made for one artifact more: it takes no memory for its place
+  abbrev pub IsReserved : Recorded S D P G C → Type 0
+  IsReserved recorded = vec_len recorded.artifacts < vec_capacity recorded.artifacts
 
   -- what holds of each owner and each list of artifacts that are recorded so
   abbrev pub AtEach : Recorded S D P G C → (Owner → List (Artifact S D P G C) → Type 0) → Type 0

@@ -10,11 +10,12 @@ ghost use Rattle.simplex_record.specs.Rules.{MayFollow};
 ghost use Rattle.journal_single.specs.declared.fault.JournalFault.TheVariants as journal_fault;
 ghost use Rattle.journal_single.specs.Disk.{LeavesOnly, counted};
 ghost use Rattle.journal_single.specs.Journal.{IsRecord};
+ghost use Rattle.journal_single.specs.Looking.{IsLeftAsItWas};
 ghost use Rattle.journal_single.specs.Record.{IsForeign, IsReopened, IsWithOrWithout};
 ghost use Rattle.simplex_member.specs.declared.fault.NodeFault.{NodeFault};
 ghost use Rattle.simplex_member.specs.declared.fault.NodeFault.TheVariants as step_fault;
 ghost use Rattle.simplex_member.specs.declared.fault.OpenFault.TheVariants as open_fault;
-ghost use Rattle.node_record.specs.Ledger.{IsContradiction, OpensOver, KeepsRecord, disk_of};
+ghost use Rattle.node_record.specs.Ledger.{IsContradiction, IsOpeningFault, OpensOver, KeepsRecord, disk_of};
 ghost use Rattle.node_record.specs.Recorded.{HoldsRecord};
 
 use crate::recorded::Recorded;
@@ -67,18 +68,23 @@ impl<S: Scheme<D>, D: Digest, K: Disk> Ledger<S, D, K> {
             (Readable ⟦<Artifact<S, D> as Write>⟧.fits (⟦<Artifact<S, D> as Read>⟧.within 65535)) (S.attests scheme.now)
             (S.certifies scheme.now) owner disk position) }
 
+        // Where it isn't opened for anything else than the disk's own fault, nothing was written or cut.
+        ensures untouched { IfErr result (λ refused. refused.0 ≢ open_fault.Device → K.keeps → IsLeftAsItWas K.seen K.calls disk refused.1) }
+
         // The disk has failed once more exactly where that is told.
         ensures device { IfErr result (λ refused. refused.0 ≡ open_fault.Device → K.failed refused.1 ≡ counted false (K.failed disk)) }
         ensures no_device { IfErr result (λ refused. refused.0 ≢ open_fault.Device → K.failed refused.1 ≡ K.failed disk) }
         ensures no_fault { IfOk result (λ ledger. K.failed (disk_of ledger) ≡ K.failed disk) }
     {
-        match Journal::open(alloc, disk) {
-            Ok((journal, artifacts)) => {
-                match Recorded::checked(alloc, scheme, owner, artifacts) {
-                    Ok(recorded) => Ok(Ledger { journal, recorded }),
-                    Err(fault) => Err((fault, journal.close())),
-                }
-            }
+        match Journal::look(alloc, disk) {
+            // The rules are asked before anything is written or cut.
+            Ok((found, artifacts)) => match Recorded::checked(alloc, scheme, owner, artifacts) {
+                Ok(recorded) => match found.keep() {
+                    Ok(journal) => Ok(Ledger { journal, recorded }),
+                    Err((_, disk)) => Err((OpenFault::Device, disk)),
+                },
+                Err(fault) => Err((fault, found.close())),
+            },
             Err((fault, disk)) => Err((not_opened(fault), disk)),
         }
     }
@@ -173,12 +179,14 @@ fn append<M: Read + EncodeSize + Drop, K: Disk>(
         Ok(()) => Ok(()),
         Err(JournalFault::Device) => Err(NodeFault::Device),
         Err(JournalFault::Failed) => Err(NodeFault::Failed),
-        Err(_) => Err(NodeFault::Memory),
+        Err(JournalFault::Memory | JournalFault::TooLong) => Err(NodeFault::Memory),
+        Err(JournalFault::Foreign(_)) => unreachable!(),
     }
 }
 
 /// Why a record was not opened, by why its journal was not.
 fn not_opened(fault: JournalFault) -> OpenFault
+    requires { IsOpeningFault fault }
     ensures device { (result ≡ open_fault.Device) ↔ (fault ≡ journal_fault.Device) }
     ensures foreign { (place : ℕ) → result ≡ open_fault.Foreign place → fault ≡ journal_fault.Foreign place }
     ensures faults { (result ≡ open_fault.Device) ⊎ ((result ≡ open_fault.Memory) ⊎ ((place : ℕ) × (result ≡ open_fault.Foreign place))) }
@@ -187,6 +195,7 @@ fn not_opened(fault: JournalFault) -> OpenFault
     match fault {
         JournalFault::Device => OpenFault::Device,
         JournalFault::Foreign(place) => OpenFault::Foreign(place),
-        JournalFault::Memory | JournalFault::TooLong | JournalFault::Failed => OpenFault::Memory,
+        JournalFault::Memory => OpenFault::Memory,
+        JournalFault::TooLong | JournalFault::Failed => unreachable!(),
     }
 }

@@ -13,7 +13,7 @@ ghost use Rattle.simplex_member.specs.declared.fault.OpenFault.TheVariants as fa
 ghost use Rattle.simplex_member.specs.Recorded.{finalization_in, notarization_in};
 ghost use Rattle.node_record.specs.Noting.{HasNoted};
 ghost use Rattle.node_record.specs.Places.{at_place};
-ghost use Rattle.node_record.specs.Recorded.{AtEach, HasLike, HasNoNullify, HoldsRecord, IsLastNullifyOf};
+ghost use Rattle.node_record.specs.Recorded.{AtEach, HasLike, HasNoNullify, HoldsRecord, IsLastNullifyOf, IsReserved};
 
 use crate::places::{Places, finalization_of, notarization_of, nullify_of};
 use messages_certificates::{Artifact, Certificate, Finalization, Notarization, Nullify};
@@ -81,12 +81,14 @@ impl<S: Scheme<D>, D: Digest> Recorded<S, D> {
         ensures same { (owner : Owner) (xs : List (Artifact S D S.PublicKey S.Signature S.Certificate))
             → HoldsRecord owner self.old xs
             → HoldsRecord owner self.new xs }
+        ensures reserved { OnOk result (IsReserved self.new) }
     {
         self.artifacts.reserve(1)
     }
 
-    /// Adds an artifact that may stand behind the others.
+    /// Adds an artifact that may stand behind the others, once room was made for it.
     pub(crate) fn add(&mut self, artifact: Artifact<S, D>) -> Result<(), AllocError>
+        requires { IsReserved self.old }
         ensures { OnOk result ((owner : Owner) (xs : List (Artifact S D S.PublicKey S.Signature S.Certificate))
             → HoldsRecord owner self.old xs
             → MayFollow owner.term_length (entries xs) (entry artifact)
@@ -95,7 +97,7 @@ impl<S: Scheme<D>, D: Digest> Recorded<S, D> {
         match self.note(&artifact) {
             Ok(()) => match self.artifacts.push(artifact) {
                 Ok(()) => Ok(()),
-                Err(_) => Err(AllocError),
+                Err(_) => unreachable!(),
             },
             Err(error) => {
                 drop(artifact);
@@ -106,7 +108,8 @@ impl<S: Scheme<D>, D: Digest> Recorded<S, D> {
 
     /// Notes what an artifact tells that is about to stand behind the others.
     fn note(&mut self, artifact: &Artifact<S, D>) -> Result<(), AllocError>
-        ensures { OnOk result ((owner : Owner) (xs : List (Artifact S D S.PublicKey S.Signature S.Certificate))
+        ensures artifacts { self.new.artifacts ≡ self.old.artifacts }
+        ensures noted { OnOk result ((owner : Owner) (xs : List (Artifact S D S.PublicKey S.Signature S.Certificate))
             → HoldsRecord owner self.old xs
             → MayFollow owner.term_length (entries xs) (entry artifact.now)
             → HasNoted owner self.new xs artifact.now) }

@@ -1,5 +1,5 @@
 -- What comes of an act that asks for one thing, and of one that has nothing to ask.
-use Rattle.std.proofs.Common.{◌≡◌, ◌∷◌, ◌++◌, [], inl, Bool, true, false, List, refl, append-nil}
+use Rattle.std.proofs.Common.{◌≡◌, ◌∷◌, ◌++◌, [], Bool, true, false, List, refl, append-nil}
 use Rattle.std.proofs.lemmas.List.Elements.{All-cons, All-nil}
 use Rattle.std.specs.Prelude.{IsTrue, ◌↔◌}
 use Rattle.types_core.specs.declared.scheme.Scheme.{Ghosts}
@@ -19,7 +19,8 @@ use Rattle.simplex_member.specs.Packet.{Formats}
 use Rattle.simplex_member.specs.Point.{Point, History}
 use Rattle.simplex_member.specs.Setup.{Setup}
 use Rattle.node_outbox.specs.Handing.{AddsDeeds, hands_as, nothing_more}
-use Rattle.node_requests.specs.Asking.{HadNothingToAsk, WasAsked, is_ask, BringsOn}
+use Rattle.node_requests.specs.Asking.{HadNothingToAsk, WasAsked, is_ask}
+use Rattle.node_requests.specs.Onward.{is_some_list}
 
 -- a request is for a handoff or not
 pub prepared_or_not : {D P : Type 0} (x : ProposalRequest D P) → (b : Bool) × (IsTrue b ↔ IsPrepared x)
@@ -29,9 +30,9 @@ prepared_or_not (request.Propose context) = (false, (λ is. cc is, λ is. absurd
 module _ {S L D P G C : Type 0} (g : Ghosts S D P G C) (e : elector.Ghosts L S D P G C) (f : Formats S D P G C) (s : Setup S D C) where
   -- one point was asked for
   pub one_asked : (voter : State S L D P G C) (tables : Tables S D P G C) (h : History S D P G C) (p : Point S D P G C) (before after : List (Action S D P G C))
-      → is_ask p ≡ true → BringsOn g f s h p → Allowed g f s h p → voting.Keeps g e s.voter voter (voter_of s (p ∷ h)) → KeepsTables (finalized_of s (p ∷ h)) tables (p ∷ h)
+      → is_ask p ≡ true → Allowed g f s h p → voting.Keeps g e s.voter voter (voter_of s (p ∷ h)) → KeepsTables (finalized_of s (p ∷ h)) tables (p ∷ h)
       → AddsDeeds f before after (deeds_of g f s h p) → WasAsked g e f s voter tables h before after
-  one_asked voter tables h p before after is brings allowed voter_is tables_are acts = record {
+  one_asked voter tables h p before after is allowed voter_is tables_are acts = record {
     points = p ∷ [];
     end = p ∷ h;
     asked = record {
@@ -41,7 +42,7 @@ module _ {S L D P G C : Type 0} (g : Ghosts S D P G C) (e : elector.Ghosts L S D
       tables_are = tables_are;
       acts = hands_as f before after (deeds_of g f s h p ++ []) (deeds_of g f s h p) (append-nil (deeds_of g f s h p)) acts;
     };
-    some = inl brings;
+    some = is_some_list p [];
   }
 
   -- nothing was left to be asked

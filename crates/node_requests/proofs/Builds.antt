@@ -183,7 +183,7 @@ module _ {S L D P G C : Type 0} (g : Ghosts S D P G C) (e : elector.Ghosts L S D
       → WasAsked g e f s voter tables h before after
   build_was_asked voter tables h request before after begun left first names early voter_is tables_are acts =
       let is = prepared_or_not request in
-      one_asked g e f s voter tables h (AsksBuild (next_number h) is.0 (context_of request)) before after refl tt
+      one_asked g e f s voter tables h (AsksBuild (next_number h) is.0 (context_of request)) before after refl
       (build_may_be_asked g f s h request is.0 begun left first names early is.1) voter_is (tables_are is.0 is.1) (acts is.0 is.1)
 
   module _ (new : State S L D P G C) (h : History S D P G C) (handoff : Bool) (context : Context D P) where
@@ -204,9 +204,9 @@ module _ {S L D P G C : Type 0} (g : Ghosts S D P G C) (e : elector.Ghosts L S D
       → build_at h n ≡ Some (handoff, context) → IsKeptOrFalls g e f s new h handoff context true
       → ((view : ℕ) → KeepsTables (finalized_of s h) tables (GivesBack n view ∷ h)) → KeepsTables (finalized_of s h) tables (LeavesBehind n ∷ h) → WasAsked g e f s new tables h actions actions
   build_fell new tables h n handoff context actions begun there falls given_back left_behind = ⊎_elim
-      (λ behind. one_asked g e f s new tables h (LeavesBehind n) actions actions refl tt (record { order = begun; due = (handoff, context, there, behind.0); fits = tt; readable = tt }) behind.1 left_behind (nothing_more f actions))
+      (λ behind. one_asked g e f s new tables h (LeavesBehind n) actions actions refl (record { order = begun; due = (handoff, context, there, behind.0); fits = tt; readable = tt }) behind.1 left_behind (nothing_more f actions))
       (λ back.
-      one_asked g e f s new tables h (GivesBack n context.round.view) actions actions refl tt (record { order = begun; due = (handoff, context, there, refl, back.0); fits = tt; readable = tt }) back.1
+      one_asked g e f s new tables h (GivesBack n context.round.view) actions actions refl (record { order = begun; due = (handoff, context, there, refl, back.0); fits = tt; readable = tt }) back.1
       (given_back context.round.view) (nothing_more f actions))
       falls
 

@@ -18,15 +18,18 @@ use Rattle.voter_history.specs.History as voted
 use Rattle.voter_history.specs.History.{latched, polled, current, seen}
 use Rattle.voter_rules.specs.GivingUp.{MayGiveUp, NullifyIsDue, earlier, first_from, has_budget, oldest_entered, term_deadline, timeout, timeout_of}
 use Rattle.voter_laws.specs.Steps.{put_holds}
-use Rattle.voter_laws.specs.Timeouts.{CurrentHasTimeout, TimeoutIsEarliest}
+use Rattle.voter_laws.specs.Timeouts.{CurrentHasTimeout, PollKeepsTimeout, TimeoutIsEarliest}
 use Rattle.simplex_member.specs.Allowed.{AreAllowed}
-use Rattle.simplex_member.specs.Layers.{current_of, is_begun, latest, voter_of}
+use Rattle.simplex_member.specs.Layers.{current_of, latest, voter_of}
 use Rattle.simplex_member.specs.Member.{IsGivenUpAt, IsWake}
 use Rattle.simplex_member.specs.Packet.{Formats}
-use Rattle.simplex_member.specs.Point.{Polls, History}
+use Rattle.simplex_member.specs.Point.{History}
 use Rattle.simplex_member.specs.Setup.{Setup}
 use Rattle.node_requests.specs.Silence.{SilenceCounts}
+use Rattle.node_requests.specs.Polling.{after_poll_by}
+use Rattle.node_requests.specs.Waking.{after_poll}
 use Rattle.node_requests.proofs.Moments.{settled}
+use Rattle.node_requests.proofs.Wakes.{IsTold}
 
 -- the next timeout, by whether the view is finalized, finalize was voted, and nullify was; by its retry, and by its first timeout
 abbrev Chosen : ℕ → Bool → Bool → Bool → Option (ℕ × TimeoutReason) → Option (ℕ × TimeoutReason) → Option ℕ → Option (ℕ × TimeoutReason)
@@ -195,20 +198,25 @@ polled_here s v now some =
     rw (there, here) refl
 
 -- what the voter says of its next timeout, where it says something
-module _ {S D P G C : Type 0} (s : voted.Setup S C) (v : List (voted.Point S D P G C)) (now : ℕ) (next : Option (ℕ × TimeoutReason)) (is : next ≡ (if nat_lt 0 (current s v) then timeout s (polled now ∷ v) now else None)) where
-  pub told_next : (x : ℕ × TimeoutReason) → next ≡ Some x → (0 < current s v) × (timeout s (polled now ∷ v) now ≡ Some x)
+module _ {S D P G C : Type 0} (s : voted.Setup S C) (v : List (voted.Point S D P G C)) (now : ℕ) (next : Option (ℕ × TimeoutReason)) (is : IsTold s v now next) where
+  pub told_next : (x : ℕ × TimeoutReason) → next ≡ Some x → (0 < current s v) × (timeout s v now ≡ Some x)
   told_next x there = by (nat_lt 0 (current s v)) refl (sym is ∙ there)
     where
-      by : (b : Bool) → nat_lt 0 (current s v) ≡ b → (if b then timeout s (polled now ∷ v) now else None) ≡ Some x → (0 < current s v) × (timeout s (polled now ∷ v) now ≡ Some x)
+      by : (b : Bool) → nat_lt 0 (current s v) ≡ b → (if b then timeout s v now else None) ≡ Some x → (0 < current s v) × (timeout s v now ≡ Some x)
       by true started e = (grind (arith, nat_tests, started), e)
       by false start e = absurd (cc e)
 
-  pub told_none : next ≡ None → 0 < current s v → timeout s (polled now ∷ v) now ≡ None
+  pub told_none : next ≡ None → 0 < current s v → timeout s v now ≡ None
   told_none none some = by (nat_lt 0 (current s v)) (grind (arith, nat_tests, some)) (sym is ∙ none)
     where
-      by : (b : Bool) → b ≡ true → (if b then timeout s (polled now ∷ v) now else None) ≡ None → timeout s (polled now ∷ v) now ≡ None
+      by : (b : Bool) → b ≡ true → (if b then timeout s v now else None) ≡ None → timeout s v now ≡ None
       by true started e = e
       by false untrue e = absurd (cc untrue)
+
+-- behind the start the current view has a timeout, while it is open and its verdict isn't true
+abbrev pub HasTimeout : {S D P G C : Type 0} → voted.Setup S C → List (voted.Point S D P G C) → ℕ → Type 0
+HasTimeout s v now = 0 < current s v → past.finalization (seen s v (current s v)) ≡ None → past.has_finalized (seen s v (current s v)) ≡ false
+    → (past.verdict (seen s v (current s v)) ≡ Some true → ⊥) → IsSome (timeout s v now)
 
 -- a test for the repetition tells so
 pub is_repetition : (why : TimeoutReason) (b : Bool) → b ≡ sameb the_type why reason.Retry → b ≡ true → why ≡ reason.Retry
@@ -221,10 +229,6 @@ no_repetition why b is off same = absurd (cc (sym off ∙ is ∙ ap (λ (w : Tim
 -- a view has room by the voter's numbers, or by the setup's
 pub room_here : (views view length cur : ℕ) → views ≡ length → view ≡ cur → HasRoom views view → HasRoom length cur
 room_here views view length cur same at room = subst (λ (n : ℕ). HasRoom n cur) same (subst (λ (m : ℕ). HasRoom views m) at room)
-
--- a look is allowed
-pub look_allowed : {S D P G C : Type 0} (g : Ghosts S D P G C) (f : Formats S D P G C) (s : Setup S D C) (h : History S D P G C) → is_begun h ≡ true → AreAllowed g f s h → AreAllowed g f s (Polls ∷ h)
-look_allowed g f s h begun all = (record { order = begun; due = tt; fits = tt; readable = tt }, all)
 
 either_way : (b : Bool) → (b ≡ true) ⊎ (b ≡ false)
 either_way true = inl refl
@@ -360,28 +364,37 @@ module _ {S D P G C : Type 0} (g : Ghosts S D P G C) (f : Formats S D P G C) (s 
   wakes_at_deadline first r fits small is = is_wake g f s k (2 ^ 64) r fits small
       (λ t ahead below. (λ up. (is t below).1 ((at_deadline first t ahead).0 up), λ low. (at_deadline first t ahead).1 ((is t below).0 low))) early
 
-module _ {S D P G C : Type 0} (g : Ghosts S D P G C) (f : Formats S D P G C) (s : Setup S D C) (h : History S D P G C) (all : AreAllowed g f s h) (there : CurrentHasTimeout S D P G C) (law : TimeoutIsEarliest S D P G C) where
-  -- a view without a timeout behind a look is never given up
-  pub never_without_timeout : (0 < current_of s h → timeout s.voter (voter_of s (Polls ∷ h)) (latest h) ≡ None) → (t : ℕ) → latest h < t → ¬ IsGivenUpAt g f s (Polls ∷ h) t
-  never_without_timeout none t ahead up = ⊎_elim
+module _ {S D P G C : Type 0} (g : Ghosts S D P G C) (f : Formats S D P G C) (s : Setup S D C) where
+  -- so it has behind a poll
+  pub has_timeout_after : (h : History S D P G C) → CurrentHasTimeout S D P G C → PollKeepsTimeout S D P G C → HasTimeout s.voter (voter_of s (after_poll s h)) (latest h)
+  has_timeout_after h there kept = after_poll_by g f s h (λ (k : History S D P G C). HasTimeout s.voter (voter_of s k) (latest h))
+      (λ lacks some final open_ untrue.
+      let looked = polled_here s.voter (voter_of s h) (latest h) some in
+      there s.voter (voter_of s h) (latest h) some
+      (sym (ap (λ (l : List (Item S D P G C)). past.finalization l) looked) ∙ final)
+      (sym (ap (λ (l : List (Item S D P G C)). past.has_finalized l) looked) ∙ open_)
+      (λ yes. untrue (ap (λ (l : List (Item S D P G C)). past.verdict l) looked ∙ yes)))
+      (λ known some final open_ untrue. subst (λ (o : Option (ℕ × TimeoutReason)). IsSome o) (kept s.voter (voter_of s h) (latest h) (latest h) known) (there s.voter (voter_of s h) (latest h) some final open_ untrue))
+
+  -- a view without a timeout is never given up, where it would have one
+  pub never_without_timeout : (k : History S D P G C) → AreAllowed g f s k → TimeoutIsEarliest S D P G C → HasTimeout s.voter (voter_of s k) (latest k) → (0 < current_of s k → timeout s.voter (voter_of s k) (latest k) ≡ None)
+      → (t : ℕ) → latest k < t → ¬ IsGivenUpAt g f s k t
+  never_without_timeout k all law there none t ahead up = ⊎_elim
       (λ due.
-      let r = (law s.voter (voter_of s (Polls ∷ h)) (latest h) t (omega (arith, ahead)) due.gives_up).0 due in
+      let r = (law s.voter (voter_of s k) (latest k) t (omega (arith, ahead)) due.gives_up).0 due in
       cc (sym r.1 ∙ none due.gives_up.some))
       (λ silent. by_silence silent.2)
       up
     where
       view : ℕ
-      view = current_of s h
+      view = current_of s k
 
-      by_silence : NullifyIsDue s.voter (latched t view reason.Inactivity ∷ voter_of s (Polls ∷ h)) t → ⊥
+      by_silence : NullifyIsDue s.voter (latched t view reason.Inactivity ∷ voter_of s k) t → ⊥
       by_silence due =
           let some : 0 < view = due.gives_up.some in
-          let w = voter_of s (Polls ∷ h) in
-          let looked = polled_here s.voter (voter_of s h) (latest h) some in
+          let w = voter_of s k in
           let is = sym (latched_timeout s.voter w t reason.Inactivity t) ∙ due.next in
           let opened = open_view t (has_budget s.voter w) (term_deadline s.voter w) (past.latched t reason.Inactivity ∷ seen s.voter w view) (due.moment, due.why) is in
-          let final : past.finalization (seen s.voter (voter_of s h) view) ≡ None = sym (ap (λ (l : List (Item S D P G C)). past.finalization l) looked) ∙ is_not_there (past.finalization (seen s.voter w view)) opened.0 in
-          let open_ : past.has_finalized (seen s.voter (voter_of s h) view) ≡ false = sym (ap (λ (l : List (Item S D P G C)). past.has_finalized l) looked) ∙ opened.1 in
-          let has : IsSome (timeout s.voter w (latest h)) = there s.voter (voter_of s h) (latest h) some final open_
-          (λ yes. let below : view < view = (settled g f s h view all).1 yes in absurd (omega (arith, below))) in
+          let has : IsSome (timeout s.voter w (latest k)) = there some (is_not_there (past.finalization (seen s.voter w view)) opened.0) opened.1
+          (λ yes. let below : view < view = (settled g f s k view all).1 yes in absurd (omega (arith, below))) in
           cc (subst (λ (o : Option (ℕ × TimeoutReason)). IsSome o) (none some) has)

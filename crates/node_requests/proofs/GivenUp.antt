@@ -10,9 +10,8 @@ use Rattle.voter_history.specs.Leaders.{leader}
 use Rattle.voter_rules.specs.GivingUp.{IsFirstLatch, MayLatch}
 use Rattle.simplex_state.specs.declared.state.State.{State}
 use Rattle.simplex_state.specs.State as voting
-use Rattle.simplex_member.specs.Allowed.{LeaderGaveUp}
+use Rattle.simplex_member.specs.Allowed.{LatchIsDue, LeaderGaveUp}
 use Rattle.simplex_member.specs.Layers.{current_of, latest, stage, voter_of, votes_of, IsUp}
-use Rattle.simplex_member.specs.Member.{LatchIsDue}
 use Rattle.simplex_member.specs.Packet.{Formats}
 use Rattle.simplex_member.specs.Point.{History}
 use Rattle.simplex_member.specs.Setup.{Setup}

@@ -1,5 +1,5 @@
 -- What asking for views leaves as it was, and one view more that is asked for.
-use Rattle.std.proofs.Common.{◌≡◌, ◌⊎◌, ◌<◌, ◌∷◌, ◌++◌, ◌∙◌, [], inl, inr, ⊎_elim, ℕ, Bool, true, false, List, Option, Some, None, refl, sym, ap, subst, append_assoc, arith}
+use Rattle.std.proofs.Common.{◌≡◌, ◌≢◌, ◌⊎◌, ◌<◌, ◌∷◌, ◌++◌, ◌∙◌, [], inl, inr, ⊎_elim, ℕ, Bool, true, false, List, Option, Some, None, refl, sym, ap, subst, append_assoc, arith}
 use Rattle.std.specs.Prelude.{All, Contains, IsTrue, ◌↔◌}
 use Rattle.std.proofs.lemmas.Bool.{cases_eq, false≢true}
 use Rattle.std.proofs.lemmas.Option.{none-some, same_Some}
@@ -32,9 +32,8 @@ use Rattle.simplex_member.specs.Setup.{Setup, member_of}
 use Rattle.node_outbox.specs.Handing.{AddsDeeds, both_more, hands_as, nothing_more}
 use Rattle.node_requests.specs.declared.acted.Acted.{Acted}
 use Rattle.node_requests.specs.declared.acted.Acted.TheVariants as came
-use Rattle.node_requests.specs.Asking.{SomeBringsOn}
 use Rattle.node_requests.specs.Fetching.{Fetches, HasFetched, is_fetch}
-use Rattle.node_requests.specs.Onward.{on_before, on_behind}
+use Rattle.node_requests.specs.Onward.{is_some_list, on_before, on_behind}
 
 module _ {S D P G C : Type 0} (g : Ghosts S D P G C) (f : Formats S D P G C) (s : Setup S D C) where
   -- points behind others
@@ -112,8 +111,8 @@ module _ {S D P G C : Type 0} (g : Ghosts S D P G C) (f : Formats S D P G C) (s 
     pub answered : IsAnswered f s end view ask to
     pub aside : StandsAside at end
     pub idle : sent ≡ false → (end ≡ at) × (after ≡ mid)
-    pub kept : SomeBringsOn g f s h first → SomeBringsOn g f s h points
-    pub some : sent ≡ true → SomeBringsOn g f s h points
+    pub kept : first ≢ [] → points ≢ []
+    pub some : sent ≡ true → points ≢ []
 
   pub seeks : (tables more : Tables S D P G C) (h at : History S D P G C) (points : List (Point S D P G C)) (asked : Asked) (before mid after : List (Action S D P G C)) (sent : Bool)
       → is_begun at ≡ true → HasFetched g f s tables h points at before mid → IsSought g f s at asked.view asked.ask asked.to → Fetches f s more at asked mid after sent
@@ -127,8 +126,8 @@ module _ {S D P G C : Type 0} (g : Ghosts S D P G C) (f : Formats S D P G C) (s 
         answered = inr (Contains-head (record { view = asked.view; ask = asked.ask; to = asked.to }) (asks_of at));
         aside = aside_one at (Asks asked.view asked.ask asked.to) refl may;
         idle = λ not_sent. absurd (false≢true (sym not_sent));
-        kept = λ some. on_before g f s h points (Asks asked.view asked.ask asked.to ∷ []) some;
-        some = λ is_sent. on_behind g f s h at points (Asks asked.view asked.ask asked.to ∷ []) k.goes (inl tt);
+        kept = λ some. on_before points (Asks asked.view asked.ask asked.to ∷ []) some;
+        some = λ is_sent. on_behind points (Asks asked.view asked.ask asked.to ∷ []) (is_some_list (Asks asked.view asked.ask asked.to) []);
       }
   seeks tables more h at points asked before mid after false begun k sought came = record {
     points = points;
@@ -162,7 +161,7 @@ module _ {S D P G C : Type 0} (g : Ghosts S D P G C) (f : Formats S D P G C) (s 
       pub end : History S D P G C
       pub fetched : HasFetched g f s tables h points end before after
       pub idle : acted ≡ came.Nothing → (end ≡ h) × (after ≡ before)
-      pub some : acted ≡ came.Did → SomeBringsOn g f s h points
+      pub some : acted ≡ came.Did → points ≢ []
       pub due : (view : ℕ) → Contains left view → IsSought g f s h view ask None
       pub rest : (view : ℕ) → Wanted view → Contains left view ⊎ IsAnswered f s end view ask None
 

@@ -105,8 +105,12 @@ module _ {S L D P G C : Type 0} (g : Ghosts S D P G C) (e : elector.Ghosts L S D
   silence_counts voter tables h now view actions begun at is silent first voter_is tables_are =
       let both = both_true (past.is_undecided (seen s.voter (voter_of s h) view)) (is_none (past.latch (seen s.voter (voter_of s h) view))) first.first in
       one_asked g e f s voter tables h (Latches view reason.Inactivity) actions actions refl
-      (record { there = (is, silent); counts = first.counts; first = none_of (past.latch (seen s.voter (voter_of s h) view)) both.1; undecided = both.0 })
-      (record { order = begun; due = ((is, silent), first.counts); fits = tt; readable = tt })
+      (record {
+        order = begun;
+        due = record { there = (is, silent); counts = first.counts; first = none_of (past.latch (seen s.voter (voter_of s h) view)) both.1; undecided = both.0 };
+        fits = tt;
+        readable = tt;
+      })
       (subst (λ (t : ℕ). voting.Keeps g e s.voter voter (latched t view reason.Inactivity ∷ voter_of s h)) at voter_is) tables_are (nothing_more f actions)
 
 module _ {S D P G C : Type 0} (g : Ghosts S D P G C) (f : Formats S D P G C) (s : Setup S D C) (h : History S D P G C) (t moment : ℕ) where

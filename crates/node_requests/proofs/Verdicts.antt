@@ -44,13 +44,13 @@ use Rattle.simplex_member.specs.Setup.{Setup, member_of}
 use Rattle.node_outbox.specs.Handing.{AddsDeeds, both_more, hands_as, nothing_more}
 use Rattle.simplex_resolver.specs.declared.state.State.{State as Repair}
 use Rattle.simplex_resolver.specs.Keeps as repairing
-use Rattle.node_requests.specs.Asking.{AskerKeeps, HadNothingToAsk, HasAsked, SomeBringsOn, WasAsked, is_ask, is_put_off}
+use Rattle.node_requests.specs.Asking.{AskerKeeps, HadNothingToAsk, HasAsked, WasAsked, is_ask, is_put_off}
 use Rattle.node_requests.specs.Certifying.{AreDueVerdicts, AsksForEach}
 use Rattle.node_requests.specs.declared.acted.Acted.{Acted}
 use Rattle.node_requests.specs.declared.acted.Acted.TheVariants as came
 use Rattle.node_requests.specs.Fetching.{AreAllWanted, Fetches, FetchesParents, HasFetched, RepairerKeeps, is_fetch}
 use Rattle.node_requests.specs.NoneDue.{NoVerdictToAsk}
-use Rattle.node_requests.specs.Onward.{on_before, on_behind}
+use Rattle.node_requests.specs.Onward.{is_some_list, on_before, on_behind}
 use Rattle.node_requests.proofs.Seeking.{AsksBut, deeds_then, goes_then, none_asked, one_fewer, stands_aside}
 
 -- a list is empty, or has an item
@@ -188,7 +188,7 @@ module _ {S D P G C : Type 0} (g : Ghosts S D P G C) (f : Formats S D P G C) (s 
     pub goes : Goes g f s h points end
     pub voter_is : voter_of s end ≡ put_off waiting (voter_of s h)
     pub no_deeds : all_deeds g f s h points ≡ []
-    pub some : waiting ≢ [] → SomeBringsOn g f s h points
+    pub some : waiting ≢ [] → points ≢ []
     pub repair_is : repair_of f end ≡ repair_of f h
     pub remembered_is : remembered end ≡ remembered h
     pub finalized_is : finalized_of s end ≡ finalized_of s h
@@ -251,7 +251,7 @@ module _ {S D P G C : Type 0} (g : Ghosts S D P G C) (f : Formats S D P G C) (s 
         goes = (may, rest.goes);
         voter_is = rest.voter_is;
         no_deeds = rest.no_deeds;
-        some = λ many. inl tt;
+        some = λ many. is_some_list x rest.points;
         repair_is = rest.repair_is;
         remembered_is = rest.remembered_is;
         finalized_is = rest.finalized_is;
@@ -407,7 +407,7 @@ module _ {S L D P G C : Type 0} (g : Ghosts S D P G C) (e : elector.Ghosts L S D
     pub asked : HasAsked g e f s voter tables h points end before after
     pub begun : is_begun end ≡ true
     pub due : AreDueVerdicts s end left
-    pub some : 0 < count → SomeBringsOn g f s h points
+    pub some : 0 < count → points ≢ []
 
   pub no_verdict_asked : (ready : List (Proposal D)) (voter : State S L D P G C) (repair : Repair) (tables : Tables S D P G C) (h : History S D P G C) (actions : List (Action S D P G C)) → AskerKeeps g e f s voter repair tables h → AreDueVerdicts s h ready
       → AskedBut 0 ready voter tables h actions actions
@@ -458,7 +458,7 @@ module _ {S L D P G C : Type 0} (g : Ghosts S D P G C) (e : elector.Ghosts L S D
               (All-contains Due left q (All-tail Due p left k.due.due) there)) left (All-contains_itself left);
           ascend = pairs_rest (λ (a b : Proposal D). a.round.view < b.round.view) p left k.due.ascend;
         };
-        some = λ any. on_behind g f s h k.end k.points (x ∷ []) k.asked.goes (inl tt);
+        some = λ any. on_behind k.points (x ∷ []) (is_some_list x []);
       }
 
   -- when none is left, some were asked for, if there were any
@@ -495,9 +495,9 @@ module _ {S L D P G C : Type 0} (g : Ghosts S D P G C) (e : elector.Ghosts L S D
           (deeds_then g f s at k.end k.points more.points k.goes ∙ ap (λ (l : List (Deed S D P G C)). l ++ all_deeds g f s k.end more.points) k.no_deeds))
           (both_more f before mid after (all_deeds g f s h points) (all_deeds g f s k.end more.points) fetched.acts more.asked.acts);
     };
-    some = on_behind g f s h at points (k.points ++ more.points) fetched.goes (⊎_elim
-        (λ waits. on_before g f s at k.points more.points (k.some waits))
-        (λ asks. on_behind g f s at k.end k.points more.points k.goes (more.some asks))
+    some = on_behind points (k.points ++ more.points) (⊎_elim
+        (λ waits. on_before k.points more.points (k.some waits))
+        (λ asks. on_behind k.points more.points (more.some asks))
         any);
   }
 

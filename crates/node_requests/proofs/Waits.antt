@@ -1,9 +1,7 @@
 -- Views that are given up on the way to a proposal that waits, and what is asked for that behind them.
-use Rattle.std.proofs.Common.{◌≡◌, ◌⊎◌, ◌<◌, ◌≤◌, ◌+◌, ◌∷◌, ◌++◌, ◌∙◌, [], inl, inr, ⊎_elim, ℕ, Bool, true, false, List, Option, Some, None, refl, sym, ap, subst, append-nil, arith, eq-eqb, if◌then◌else◌}
+use Rattle.std.proofs.Common.{◌≡◌, ◌≢◌, ◌⊎◌, ◌<◌, ◌≤◌, ◌+◌, ◌∷◌, ◌++◌, ◌∙◌, [], inl, inr, ⊎_elim, ℕ, Bool, true, false, List, Option, Some, None, refl, sym, ap, subst, append-nil, arith}
 use Rattle.std.specs.Prelude.{◌^◌, ◌-◌, ◌&&◌, All, IsSome, IsTrue, is_none, is_some, ◌↔◌}
-use Rattle.std.specs.Option.{option_or}
 use Rattle.std.proofs.lemmas.Bool.{cases_lt, false≢true}
-use Rattle.std.proofs.lemmas.Option.{none-some}
 use Rattle.std.proofs.lemmas.List.Elements.{All-append, All-cons, All-nil, All-push, All-weaker}
 use Rattle.types_quorum.specs.Counting.{Contains-head}
 use Rattle.types_core.specs.declared.context.Context.{Context}
@@ -16,7 +14,6 @@ use Rattle.voter_history.specs.declared.timeout_reason.TimeoutReason.{TimeoutRea
 use Rattle.voter_history.specs.declared.timeout_reason.TimeoutReason.TheVariants as reason
 use Rattle.voter_history.specs.Past as past
 use Rattle.voter_history.specs.Past.{Item}
-use Rattle.voter_history.specs.Pasts.{put}
 use Rattle.voter_history.specs.History as views
 use Rattle.voter_history.specs.History.{ancestry_asked, current, latched, seen}
 use Rattle.voter_history.specs.Leaders.{leader}
@@ -27,11 +24,10 @@ use Rattle.voter_rules.specs.GivingUp.{IsFirstLatch, MayLatch}
 use Rattle.voter_rules.specs.Laws.{OneIsFound}
 use Rattle.voter_rules.specs.declared.requests.VerifyRequest.{VerifyRequest}
 use Rattle.voter_rules.specs.declared.requests.VerifyRequest.TheVariants as request
-use Rattle.voter_rules.specs.Requests.{AsksNothing, IsInvalid, Scanned, begun, passed, given_up}
-use Rattle.voter_laws.specs.Matching.{LatchChangesNothing, ScanChangesNothing}
+use Rattle.voter_rules.specs.Requests.{AsksNothing, IsInvalid, Scanned, begun, passed, given_up, left_so}
+use Rattle.voter_laws.specs.Matching.{ScanChangesNothing, ScanLeavesNoReason}
 use Rattle.voter_laws.specs.Missing.{IsMissing}
 use Rattle.voter_laws.specs.StaysKnown.{WhatIsKnownStays}
-use Rattle.voter_laws.specs.Steps.{put_holds}
 use Rattle.simplex_resolver.specs.declared.ask.Kind as repair
 use Rattle.simplex_resolver.specs.declared.ask.Kind.TheVariants as kind
 use Rattle.simplex_state.specs.declared.state.State.{State}
@@ -41,18 +37,18 @@ use Rattle.simplex_state.specs.Verifying.{Answers, AsksCertificate, AsksVerifica
 use Rattle.node_record.specs.declared.tables.Tables.{Tables}
 use Rattle.node_record.specs.Tables.{KeepsTables, Remembered, Tells, remembered}
 use Rattle.simplex_member.specs.declared.action.Action.{Action}
-use Rattle.simplex_member.specs.Allowed.{Allowed}
+use Rattle.simplex_member.specs.Allowed.{Allowed, LatchIsDue}
 use Rattle.simplex_member.specs.Asked.{HasNumber, ancestry, asks_of, next_number}
 use Rattle.simplex_member.specs.Deeds.{Verifies, all_deeds}
 use Rattle.simplex_member.specs.Layers.{finalized_of, is_begun, known_of, latest, repair_of, voter_of}
-use Rattle.simplex_member.specs.Member.{Goes, LatchIsDue}
+use Rattle.simplex_member.specs.Member.{Goes}
 use Rattle.simplex_member.specs.Packet.{Formats}
 use Rattle.simplex_member.specs.Point.{Point, AsksVerify, Asks, Latches, Resolves, History}
 use Rattle.simplex_member.specs.Setup.{Setup, member_of}
 use Rattle.node_outbox.specs.Handing.{AddsDeeds, hands_as, nothing_more}
 use Rattle.simplex_resolver.specs.declared.state.State.{State as Repair}
-use Rattle.node_requests.specs.Asking.{AskerKeeps, HadNothingToAsk, HasAsked, SomeBringsOn, WasAsked, is_ask, is_latch}
-use Rattle.node_requests.specs.Onward.{on_behind}
+use Rattle.node_requests.specs.Asking.{AskerKeeps, HadNothingToAsk, HasAsked, WasAsked, is_ask, is_latch}
+use Rattle.node_requests.specs.Onward.{is_some_list, on_behind}
 use Rattle.node_requests.specs.Fetching.{Fetches}
 use Rattle.node_requests.specs.GivingUp.{GivesInvalidUp}
 use Rattle.node_requests.specs.NoneDue.{NoInvalidProposal, NoVerificationToAsk}
@@ -62,48 +58,27 @@ use Rattle.node_requests.proofs.Seeking.{deeds_then, goes_then}
 -- ---- what was latched
 
 module _ {S D P G C : Type 0} where
-  -- behind a reason that came while nothing was voted there is a first one
-  has_latch : (x : List (Item S D P G C)) (now : ℕ) (why : TimeoutReason) → past.is_undecided x ≡ true → past.latch (past.latched now why ∷ x) ≡ None → ⊥
-  has_latch x now why undecided = by (past.is_undecided x) (past.latch x) undecided
-    where
-      by : (b : Bool) (o : Option (ℕ × TimeoutReason)) → b ≡ true → (if b then option_or o (Some (now, why)) else o) ≡ None → ⊥
-      by true None is none = none-some (now, why) (sym none)
-      by true (Some first) is none = none-some first (sym none)
-      by false o is none = false≢true is
-
-  put_here : (at : ℕ) (x : Item S D P G C) (t : ℕ → List (Item S D P G C)) → put at x t at ≡ x ∷ t at
-  put_here at x t = ap (λ (b : Bool). if b then x ∷ t at else t at) (eq-eqb at at refl)
-
-  put_elsewhere : (at view : ℕ) (x : Item S D P G C) (t : ℕ → List (Item S D P G C)) → (at ≡ view → ⊥) → put at x t view ≡ t view
-  put_elsewhere at view x t other = put_holds (λ (l : List (Item S D P G C)). l ≡ t view) view at x t (λ same. absurd (other same)) refl
-
-  -- a view whose proposal can never stand, which a look passed, was given up
-  pub was_latched : LatchChangesNothing S D P G C → ScanChangesNothing S D P G C → (v : views.Setup S C) (now first : ℕ) (h : List (views.Point S D P G C)) (view : ℕ) (end : List (views.Point S D P G C)) → Scanned v now first h view end
-      → (u : ℕ) (p : Proposal D) → first ≤ u → u < view → IsInvalid (member v) (known v end) u p → past.is_undecided (seen v end u) ≡ true → past.latch (seen v end u) ≡ None → ⊥
-  was_latched latch_law scan_law v now first h view end begun u p from below bad undecided none = absurd (omega (arith, from, below))
-  was_latched latch_law scan_law v now first h view end (passed {view = w} scanned is) u p from below bad undecided none = elim (cases_lt u w) [
-    | inl before ↦ was_latched latch_law scan_law v now first h w end scanned u p from before bad undecided none
-    | inr after ↦
-        let at : u ≡ w = omega (arith, after, below) in
-        is.not_invalid p (subst (λ (x : ℕ). IsInvalid (member v) (known v end) x p) at bad)
-  ]
-  was_latched latch_law scan_law v now first h view end (given_up {view = w} {end = so_far} scanned other) u p from below bad undecided none =
-      let bad_so_far : IsInvalid (member v) (known v so_far) u p = subst (λ (k : Known D). IsInvalid (member v) k u p) (latch_law v so_far now w reason.InvalidProposal) bad in
-      elim (cases_lt u w) [
-        | inl before ↦
-            let same = put_elsewhere w u (past.latched now reason.InvalidProposal) (seen v so_far) (λ is. absurd (omega (arith, before, is))) in
-            was_latched latch_law scan_law v now first h w so_far scanned u p from before bad_so_far
-            (ap past.is_undecided (sym same) ∙ undecided) (ap past.latch (sym same) ∙ none)
-        | inr after ↦
-            let at : w ≡ u = omega (arith, after, below) in
-            let same : seen v (latched now w reason.InvalidProposal ∷ so_far) u ≡ past.latched now reason.InvalidProposal ∷ seen v so_far u =
-            subst (λ (x : ℕ). seen v (latched now w reason.InvalidProposal ∷ so_far) x ≡ past.latched now reason.InvalidProposal ∷ seen v so_far x) at (put_here w (past.latched now reason.InvalidProposal) (seen v so_far)) in
-            has_latch (seen v so_far u) now reason.InvalidProposal (ap past.is_undecided (sym same) ∙ undecided) (ap past.latch (sym same) ∙ none)
-      ]
-
   -- a proposal that can never stand is a reason that counts
   pub invalid_counts : (v : views.Setup S C) (h : List (views.Point S D P G C)) (view : ℕ) (p : Proposal D) → IsInvalid (member v) (known v h) view p → MayLatch v h view reason.InvalidProposal
   invalid_counts v h view p bad = record { from = bad.waits.opens.from; tracked = inr bad.waits.led.0; heard = λ is. absurd (cc is) }
+
+some_of : {X : Type 0} (o : Option X) → IsSome o → (x : X) × (o ≡ Some x)
+some_of (Some x) is = (x, refl)
+some_of None is = absurd (false≢true is)
+
+pub none_of : {X : Type 0} (o : Option X) → is_none o ≡ true → o ≡ None
+none_of None is = refl
+none_of (Some x) is = absurd (false≢true is)
+
+pub both_true : (a b : Bool) → (a && b) ≡ true → (a ≡ true) × (b ≡ true)
+both_true true true is = (refl, refl)
+both_true true false is = absurd (false≢true is)
+both_true false b is = absurd (false≢true is)
+
+true_both : (a b : Bool) → a ≡ true → b ≡ true → (a && b) ≡ true
+true_both true true one other = refl
+true_both true false one other = absurd (false≢true other)
+true_both false b one other = absurd (false≢true one)
 
 -- ---- the same as points of a member
 
@@ -121,12 +96,19 @@ module _ {S D P G C : Type 0} (g : Ghosts S D P G C) (f : Formats S D P G C) (s 
     pub finalized_is : finalized_of s end ≡ finalized_of s h
     pub begun : is_begun end ≡ true
 
-  pub gives_up : (h : History S D P G C) (voted : List (views.Point S D P G C)) (k : HasGivenUp h voted) (view : ℕ) (p : Proposal D) → IsInvalid (member_of s) (known s.voter voted) view p
+  pub gives_up : (h : History S D P G C) (voted : List (views.Point S D P G C)) (k : HasGivenUp h voted) (view : ℕ) (p : Proposal D) → IsInvalid (member_of s) (known s.voter voted) view p → past.is_unlatched (seen s.voter voted view) ≡ true
       → HasGivenUp h (latched (latest h) view reason.InvalidProposal ∷ voted)
-  gives_up h voted k view p bad =
+  gives_up h voted k view p bad is_first =
       let x : Point S D P G C = Latches view reason.InvalidProposal in
       let here : IsInvalid (member_of s) (known_of s k.end) view p = subst (λ (v : List (views.Point S D P G C)). IsInvalid (member_of s) (known s.voter v) view p) (sym k.voter_is) bad in
-      let may : Allowed g f s k.end x = record { order = k.begun; due = ((p, here), invalid_counts s.voter (voter_of s k.end) view p here); fits = tt; readable = tt } in
+      let items : List (Item S D P G C) = seen s.voter (voter_of s k.end) view in
+      let both = both_true (past.is_undecided items) (is_none (past.latch items)) (subst (λ (v : List (views.Point S D P G C)). past.is_unlatched (seen s.voter v view) ≡ true) (sym k.voter_is) is_first) in
+      let may : Allowed g f s k.end x = record {
+        order = k.begun;
+        due = record { there = (p, here); counts = invalid_counts s.voter (voter_of s k.end) view p here; first = none_of (past.latch items) both.1; undecided = both.0 };
+        fits = tt;
+        readable = tt;
+      } in
       record {
         points = k.points ++ x ∷ [];
         end = x ∷ k.end;
@@ -156,7 +138,8 @@ module _ {S D P G C : Type 0} (g : Ghosts S D P G C) (f : Formats S D P G C) (s 
     begun = is;
   }
   gives_up_on_way h first view voted is (passed {view = w} scanned idle) = gives_up_on_way h first w voted is scanned
-  gives_up_on_way h first view voted is (given_up {view = w} {end = so_far} scanned bad) = gives_up h so_far (gives_up_on_way h first w so_far is scanned) w bad.0 bad.1
+  gives_up_on_way h first view voted is (given_up {view = w} {end = so_far} scanned bad is_first) = gives_up h so_far (gives_up_on_way h first w so_far is scanned) w bad.0 bad.1 is_first
+  gives_up_on_way h first view voted is (left_so {view = w} scanned bad isnt) = gives_up_on_way h first w voted is scanned
 
   -- the tables stand there too
   pub tables_behind : (h : History S D P G C) (voted : List (views.Point S D P G C)) (tables : Tables S D P G C) (k : HasGivenUp h voted) → KeepsTables (finalized_of s h) tables h → KeepsTables (finalized_of s k.end) tables k.end
@@ -166,24 +149,6 @@ module _ {S D P G C : Type 0} (g : Ghosts S D P G C) (f : Formats S D P G C) (s 
 
   pub number_behind : (h : History S D P G C) (voted : List (views.Point S D P G C)) (k : HasGivenUp h voted) → HasNumber h → HasNumber k.end
   number_behind h voted k left = subst (λ (r : Remembered D P). r.number < 2 ^ 64 - 1) (sym k.remembered_is) left
-
-some_of : {X : Type 0} (o : Option X) → IsSome o → (x : X) × (o ≡ Some x)
-some_of (Some x) is = (x, refl)
-some_of None is = absurd (false≢true is)
-
-pub none_of : {X : Type 0} (o : Option X) → is_none o ≡ true → o ≡ None
-none_of None is = refl
-none_of (Some x) is = absurd (false≢true is)
-
-pub both_true : (a b : Bool) → (a && b) ≡ true → (a ≡ true) × (b ≡ true)
-both_true true true is = (refl, refl)
-both_true true false is = absurd (false≢true is)
-both_true false b is = absurd (false≢true is)
-
-true_both : (a b : Bool) → a ≡ true → b ≡ true → (a && b) ≡ true
-true_both true true one other = refl
-true_both true false one other = absurd (false≢true other)
-true_both false b one other = absurd (false≢true one)
 
 latch_is_ask : {S D P G C : Type 0} (p : Point S D P G C) → is_latch p ≡ true → is_ask p ≡ true
 latch_is_ask (Latches view why) is = refl
@@ -195,7 +160,7 @@ latches_are_asks points are = All-weaker (λ p. is_latch p ≡ true) (λ p. is_a
 module _ {S L D P G C : Type 0} (g : Ghosts S D P G C) (e : elector.Ghosts L S D P G C) (f : Formats S D P G C) (s : Setup S D C) where
   -- behind views that were given up these points were asked for
   pub asked_behind : (voter : State S L D P G C) (tables : Tables S D P G C) (h : History S D P G C) (voted : List (views.Point S D P G C)) (k : HasGivenUp g f s h voted) (points : List (Point S D P G C)) (end : History S D P G C) (before after : List (Action S D P G C))
-      → HasAsked g e f s voter tables k.end points end before after → SomeBringsOn g f s k.end points → WasAsked g e f s voter tables h before after
+      → HasAsked g e f s voter tables k.end points end before after → points ≢ [] → WasAsked g e f s voter tables h before after
   asked_behind voter tables h voted k points end before after more some = record {
     points = k.points ++ points;
     end = end;
@@ -207,14 +172,14 @@ module _ {S L D P G C : Type 0} (g : Ghosts S D P G C) (e : elector.Ghosts L S D
       acts = hands_as f before after (all_deeds g f s h (k.points ++ points)) (all_deeds g f s k.end points)
           (deeds_then g f s h k.end k.points points k.goes ∙ ap (λ l. l ++ all_deeds g f s k.end points) k.no_deeds) more.acts;
     };
-    some = on_behind g f s h k.end k.points points k.goes some;
+    some = on_behind k.points points some;
   }
 
   -- nothing is left to be asked where a look passed all that may be spoken of
-  nothing_left : LatchChangesNothing S D P G C → ScanChangesNothing S D P G C → (voter : State S L D P G C) (now : ℕ) (end : History S D P G C) (h voted : List (views.Point S D P G C)) (last : ℕ)
+  nothing_left : ScanLeavesNoReason S D P G C → ScanChangesNothing S D P G C → (voter : State S L D P G C) (now : ℕ) (end : History S D P G C) (h voted : List (views.Point S D P G C)) (last : ℕ)
       → voter_of s end ≡ voted → Scanned s.voter now (current s.voter h) h last voted → ((u : ℕ) → AdmitsOutbound s.voter.length s.voter.optimistic_views (current s.voter voted) u → u < last)
       → ((u : ℕ) → AsksNothing (member_of s) (known s.voter voted) u) → NoVerificationToAsk g f s end
-  nothing_left latch_law scan_law voter now end h voted last is scanned whole idle =
+  nothing_left reason_law scan_law voter now end h voted last is scanned whole idle =
       let idle_here : (u : ℕ) → AsksNothing (member_of s) (known_of s end) u = λ u. subst (λ (v : List (views.Point S D P G C)). AsksNothing (member_of s) (known s.voter v) u) (sym is) (idle u) in
       record {
         none_invalid = λ view due. never_due view due;
@@ -231,16 +196,18 @@ module _ {S L D P G C : Type 0} (g : Ghosts S D P G C) (e : elector.Ghosts L S D
           let bad_there : IsInvalid (member_of s) (known s.voter voted) view p = subst (λ w. IsInvalid (member_of s) (known s.voter w) view p) same bad in
           let from : current s.voter voted ≤ view = bad_there.waits.opens.from in
           let unmoved : current s.voter voted ≡ current s.voter h = ap (λ (k : Known D). k.current) (scan_law s.voter now (current s.voter h) h last voted scanned) in
-          was_latched latch_law scan_law s.voter now (current s.voter h) h last voted scanned view p (omega (arith, from, unmoved)) (whole view bad_there.waits.opens.outbound) bad_there
-          (ap (λ w. past.is_undecided (seen s.voter w view)) (sym same) ∙ undecided) (ap (λ w. past.latch (seen s.voter w view)) (sym same) ∙ none)
+          let unlatched : past.is_unlatched (seen s.voter v view) ≡ true =
+          true_both (past.is_undecided (seen s.voter v view)) (is_none (past.latch (seen s.voter v view))) undecided (ap (λ (o : Option (ℕ × TimeoutReason)). is_none o) none) in
+          false≢true (sym (reason_law s.voter now (current s.voter h) h last voted scanned view p (omega (arith, from, unmoved)) (whole view bad_there.waits.opens.outbound) bad_there)
+          ∙ (ap (λ w. past.is_unlatched (seen s.voter w view)) (sym same) ∙ unlatched))
 
       never_due : (view : ℕ) → LatchIsDue g f s end view reason.InvalidProposal → ⊥
       never_due view due = never (voter_of s end) is view due.there.0 due.there.1 due.undecided due.first
 
   -- where the voter waits nothing was left
-  pub waits : LatchChangesNothing S D P G C → ScanChangesNothing S D P G C → (voter : State S L D P G C) (tables : Tables S D P G C) (h : History S D P G C) (now : ℕ) (actions : List (Action S D P G C)) → is_begun h ≡ true → now ≡ latest h
+  pub waits : ScanLeavesNoReason S D P G C → ScanChangesNothing S D P G C → (voter : State S L D P G C) (tables : Tables S D P G C) (h : History S D P G C) (now : ℕ) (actions : List (Action S D P G C)) → is_begun h ≡ true → now ≡ latest h
       → KeepsTables (finalized_of s h) tables h → Answers g e s.voter voter now (voter_of s h) verify.Wait → HadNothingToAsk g e f s is_latch (NoVerificationToAsk g f s) voter tables h actions actions
-  waits latch_law scan_law voter tables h now actions live at tables_are answer =
+  waits reason_law scan_law voter tables h now actions live at tables_are answer =
       let last = answer.0 in
       let look = answer.1 in
       let scanned : Scanned s.voter (latest h) (current s.voter (voter_of s h)) (voter_of s h) last look.end = subst (λ (t : ℕ). Scanned s.voter t (current s.voter (voter_of s h)) (voter_of s h) last look.end) at look.looked in
@@ -256,7 +223,7 @@ module _ {S L D P G C : Type 0} (g : Ghosts S D P G C) (e : elector.Ghosts L S D
           tables_are = tables_behind g f s h look.end tables k tables_are;
           acts = hands_as f actions actions (all_deeds g f s h k.points) [] k.no_deeds (nothing_more f actions);
         };
-        none = nothing_left latch_law scan_law voter (latest h) k.end (voter_of s h) look.end last k.voter_is scanned look.holds.whole look.holds.idle;
+        none = nothing_left reason_law scan_law voter (latest h) k.end (voter_of s h) look.end last k.voter_is scanned look.holds.whole look.holds.idle;
       }
 
   -- behind the views that were given up a verification is asked for
@@ -284,7 +251,7 @@ module _ {S L D P G C : Type 0} (g : Ghosts S D P G C) (e : elector.Ghosts L S D
         voter_is = asks.keeps;
         tables_are = tells (finalized_of s k.end) k.end there;
         acts = acts (finalized_of s k.end) k.end there;
-      }) (inl tt)
+      }) (is_some_list x [])
 
   -- or the certificate that a proposal lacks, of whoever leads its view
   pub certificate_asked : WhatIsKnownStays S D P G C → (voter : State S L D P G C) (tables more : Tables S D P G C) (h : History S D P G C) (now proposal view : ℕ) (what : repair.Kind) (target : P) (to : Option ℕ) (before after : List (Action S D P G C)) (sent : Bool)
@@ -327,7 +294,7 @@ module _ {S L D P G C : Type 0} (g : Ghosts S D P G C) (e : elector.Ghosts L S D
             voter_is = asks.keeps;
             tables_are = came.1;
             acts = came.2;
-          }) (inl tt)
+          }) (is_some_list a (r ∷ []))
       resolves at voted k index asks leads false came =
           let r : Point S D P G C = Resolves proposal what view in
           let may : Allowed g f s k.end r = record { order = k.begun; due = record { missing = asks.missing; index = index; leads = leads; asked = came.0 }; fits = tt; readable = tt } in
@@ -337,7 +304,7 @@ module _ {S L D P G C : Type 0} (g : Ghosts S D P G C) (e : elector.Ghosts L S D
             voter_is = asks.keeps;
             tables_are = came.1;
             acts = subst (λ (l : List (Action S D P G C)). AddsDeeds f before l []) (sym came.2) (nothing_more f before);
-          }) (inl tt)
+          }) (is_some_list r [])
 
   -- a proposal that can never stand is the first reason to give its view up, or none that is due
   pub gives_invalid_up : (new : State S L D P G C) (h : History S D P G C) (view now : ℕ) (first : Bool) → latest h ≡ now → ((p : Proposal D) × IsInvalid (member_of s) (known_of s h) view p)
@@ -422,5 +389,5 @@ module _ {S L D P G C : Type 0} (g : Ghosts S D P G C) (e : elector.Ghosts L S D
   pub gave_up : (new : State S L D P G C) (repair : Repair) (voter : State S L D P G C) (tables : Tables S D P G C) (h : History S D P G C) (view : ℕ) (actions : List (Action S D P G C)) → AskerKeeps g e f s voter repair tables h → GivesInvalidUp g e f s new h view true
       → WasAsked g e f s new tables h actions actions
   gave_up new repair voter tables h view actions k came =
-      one_asked g e f s new tables h (Latches view reason.InvalidProposal) actions actions refl came.0
-      (record { order = k.begun; due = (came.0.there, came.0.counts); fits = tt; readable = tt }) came.1 k.tables_are (nothing_more f actions)
+      one_asked g e f s new tables h (Latches view reason.InvalidProposal) actions actions refl
+      (record { order = k.begun; due = came.0; fits = tt; readable = tt }) came.1 k.tables_are (nothing_more f actions)

@@ -1,5 +1,5 @@
 -- Where a member stands that asks, and what comes of its acts.
-use Rattle.std.specs.Prelude.{◌≡◌, ◌⊎◌, ℕ, Bool, true, false, List, [], ◌∷◌, All, ⊤}
+use Rattle.std.specs.Prelude.{◌≡◌, ◌≢◌, ℕ, Bool, true, false, List, [], All}
 use Rattle.types_core.specs.declared.scheme.Scheme.{Ghosts}
 use Rattle.types_terms.specs.declared.elector.Elector as elector
 use Rattle.simplex_state.specs.declared.state.State.{State}
@@ -12,7 +12,7 @@ use Rattle.simplex_member.specs.declared.action.Action.{Action}
 use Rattle.simplex_member.specs.Allowed.{AreAllowed}
 use Rattle.simplex_member.specs.Deeds.{all_deeds}
 use Rattle.simplex_member.specs.Layers.{finalized_of, is_begun, repair_of, voter_of}
-use Rattle.simplex_member.specs.Member.{Goes, LatchIsDue}
+use Rattle.simplex_member.specs.Member.{Goes}
 use Rattle.simplex_member.specs.Packet.{Formats}
 use Rattle.simplex_member.specs.Point.{Point, Latches, Polls, AsksBuild, AsksVerify, AsksCertify, GivesBack, LeavesBehind, PutsOff, Asks, Resolves, History}
 use Rattle.simplex_member.specs.Setup.{Setup}
@@ -21,11 +21,10 @@ use Rattle.node_requests.specs.declared.acted.Acted.{Acted}
 use Rattle.node_requests.specs.declared.acted.Acted.TheVariants as came
 
 module _ {S D P G C : Type 0} where
-  -- a point is an ask, or is about one, about a reason to give a view up, or about when that is due: nothing is recorded at it, and it
-  -- says nothing of votes and of the repair
+  -- a point is an ask, or is about one or about a reason to give a view up: nothing is recorded at it, and it says nothing of votes and
+  -- of the repair
   abbrev pub is_ask : Point S D P G C → Bool
   is_ask (Latches view why) = true
-  is_ask Polls = true
   is_ask (AsksBuild number handoff context) = true
   is_ask (AsksVerify number context p) = true
   is_ask (AsksCertify p) = true
@@ -62,18 +61,6 @@ module _ {S D P G C : Type 0} where
   is_poll Polls = true
   is_poll p = false
 
-module _ {S D P G C : Type 0} (g : Ghosts S D P G C) (f : Formats S D P G C) (s : Setup S D C) where
-  -- a point brings the member on: a look at the next timeout does not, and a reason to give a view up does where it is the first
-  abbrev pub BringsOn : History S D P G C → Point S D P G C → Type 0
-  BringsOn h (Latches view why) = LatchIsDue g f s h view why
-  BringsOn h Polls = ⊥
-  BringsOn h p = ⊤
-
-  -- one of these points brings it on, behind those before it
-  abbrev pub SomeBringsOn : History S D P G C → List (Point S D P G C) → Type 0
-  SomeBringsOn h [] = ⊥
-  SomeBringsOn h (p ∷ points) = BringsOn h p ⊎ SomeBringsOn (p ∷ h) points
-
 module _ {S L D P G C : Type 0} (g : Ghosts S D P G C) (e : elector.Ghosts L S D P G C) (f : Formats S D P G C) (s : Setup S D C) where
   -- who asks stands where this history leads: the record was gone through, each point was allowed, and the voter, the repair and the
   -- tables stand where their parts of it lead
@@ -98,7 +85,7 @@ module _ {S L D P G C : Type 0} (g : Ghosts S D P G C) (e : elector.Ghosts L S D
     pub points : List (Point S D P G C)
     pub end : History S D P G C
     pub asked : HasAsked voter tables h points end before after
-    pub some : SomeBringsOn g f s h points
+    pub some : points ≢ []
 
   -- nothing was left to be asked, behind points of this kind alone: this holds where they led
   pub record HadNothingToAsk (is_kind : Point S D P G C → Bool) (Done : History S D P G C → Type 0) (voter : State S L D P G C) (tables : Tables S D P G C) (h : History S D P G C) (before after : List (Action S D P G C)) : Type 0 where

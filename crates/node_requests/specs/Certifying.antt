@@ -11,7 +11,7 @@ use Rattle.simplex_member.specs.Layers.{known_of}
 use Rattle.simplex_member.specs.Packet.{Formats}
 use Rattle.simplex_member.specs.Point.{Point, History}
 use Rattle.simplex_member.specs.Setup.{Setup, member_of}
-use Rattle.node_requests.specs.Asking.{HasAsked, SomeBringsOn}
+use Rattle.node_requests.specs.Asking.{HasAsked}
 
 module _ {S D C : Type 0} (s : Setup S D C) where
   -- the verdicts on these proposals are due, and no two are of one view
@@ -20,9 +20,9 @@ module _ {S D C : Type 0} (s : Setup S D C) where
     pub ascend : AllPairs (λ (p q : Proposal D). p.round.view < q.round.view) ready
 
 module _ {S L D P G C : Type 0} (g : Ghosts S D P G C) (e : elector.Ghosts L S D P G C) (f : Formats S D P G C) (s : Setup S D C) where
-  -- the verdicts on these proposals were asked for: where there are any, that brings the member on
+  -- the verdicts on these proposals were asked for
   pub record AsksForEach (voter : State S L D P G C) (tables : Tables S D P G C) (h : History S D P G C) (ready : List (Proposal D)) (before after : List (Action S D P G C)) : Type 0 where
     pub points : List (Point S D P G C)
     pub end : History S D P G C
     pub asked : HasAsked g e f s voter tables h points end before after
-    pub some : ready ≢ [] → SomeBringsOn g f s h points
+    pub some : ready ≢ [] → points ≢ []

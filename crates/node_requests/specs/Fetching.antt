@@ -1,5 +1,5 @@
 -- Views that are asked for of other members.
-use Rattle.std.specs.Prelude.{◌≡◌, ◌∷◌, [], ℕ, Bool, true, false, List, All, Contains, None}
+use Rattle.std.specs.Prelude.{◌≡◌, ◌≢◌, ◌∷◌, [], ℕ, Bool, true, false, List, All, Contains, None}
 use Rattle.types_core.specs.declared.scheme.Scheme.{Ghosts}
 use Rattle.voter_rules.specs.declared.certificate_fetch.CertificateFetch.{CertificateFetch}
 use Rattle.voter_rules.specs.Requests.{CertificateIsWanted}
@@ -21,7 +21,6 @@ use Rattle.simplex_member.specs.Setup.{Setup, member_of}
 use Rattle.node_outbox.specs.Handing.{AddsDeeds}
 use Rattle.node_requests.specs.declared.acted.Acted.{Acted}
 use Rattle.node_requests.specs.declared.acted.Acted.TheVariants as came
-use Rattle.node_requests.specs.Asking.{SomeBringsOn}
 
 module _ {S D P G C : Type 0} where
   -- a view is asked for
@@ -57,7 +56,7 @@ module _ {S D P G C : Type 0} (g : Ghosts S D P G C) (f : Formats S D P G C) (s 
     pub points : List (Point S D P G C)
     pub end : History S D P G C
     pub fetched : HasFetched tables h points end before after
-    pub some : SomeBringsOn g f s h points
+    pub some : points ≢ []
 
   -- what comes of an act that asks for views: some were asked for; or nothing changed, and this holds
   abbrev pub ComesToFetch : (History S D P G C → Type 0) → Tables S D P G C → History S D P G C → List (Action S D P G C) → List (Action S D P G C) → Acted → Type 0

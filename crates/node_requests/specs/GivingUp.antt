@@ -7,7 +7,7 @@ use Rattle.voter_history.specs.History.{latched}
 use Rattle.simplex_state.specs.declared.state.State.{State}
 use Rattle.simplex_state.specs.State as voting
 use Rattle.simplex_member.specs.Layers.{latest, voter_of}
-use Rattle.simplex_member.specs.Member.{LatchIsDue}
+use Rattle.simplex_member.specs.Allowed.{LatchIsDue}
 use Rattle.simplex_member.specs.Packet.{Formats}
 use Rattle.simplex_member.specs.Point.{History}
 use Rattle.simplex_member.specs.Setup.{Setup}

@@ -7,5 +7,6 @@ pub mod GivingUp
 pub mod NoneDue
 pub mod Silence
 pub mod Waking
+pub mod Polling
 pub mod Following
 pub mod Leading

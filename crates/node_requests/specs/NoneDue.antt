@@ -7,10 +7,9 @@ use Rattle.voter_history.specs.declared.timeout_reason.TimeoutReason.TheVariants
 use Rattle.voter_rules.specs.Requests.{NoBuildIsDue, VerifyIsDue, CertifyIsDue, IsPutOff}
 use Rattle.voter_laws.specs.Missing.{IsMissing}
 use Rattle.simplex_resolver.specs.declared.ask.Kind as repair
-use Rattle.simplex_member.specs.Allowed.{AskIsDue, IsGivenBack}
+use Rattle.simplex_member.specs.Allowed.{AskIsDue, IsGivenBack, LatchIsDue}
 use Rattle.simplex_member.specs.Asked.{HasNumber, backfill, build_at}
 use Rattle.simplex_member.specs.Layers.{current_of, known_of}
-use Rattle.simplex_member.specs.Member.{LatchIsDue}
 use Rattle.simplex_member.specs.Packet.{Formats}
 use Rattle.simplex_member.specs.Point.{History}
 use Rattle.simplex_member.specs.Setup.{Setup, member_of}

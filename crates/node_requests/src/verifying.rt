@@ -33,7 +33,7 @@ use std::alloc::Global;
 use types_core::{Context, Digest, Proposal, Scheme, View};
 use types_terms::Elector;
 use voter_history::TimeoutReason;
-use voter_laws::{a_latch_changes_nothing_due, a_look_leaves_nothing_to_ask, what_is_known_stays};
+use voter_laws::{a_look_leaves_nothing_to_ask, what_is_known_stays};
 use voter_rules::one_request_is_due;
 use voter_rules::requests::{VerifyRequest, request_for};
 
@@ -82,7 +82,6 @@ fn ask_what_is_wanted<S: Scheme<D> + Drop, L: Elector<S, D>, D: Digest>(
         acted)) }
     ensures fault { IfErr result (λ why. why ≡ step_fault.Memory) }
 {
-    a_latch_changes_nothing_due::<S, D>();
     a_look_leaves_nothing_to_ask::<S, D>();
     what_is_known_stays::<S, D>();
     match wanted {

@@ -1,15 +1,14 @@
 //! When the current view is given up, and when the member wants to be told the time.
 
-ghost use Rattle.std.specs.Prelude.{◌≡◌, ◌↔◌, ◌⊎◌, ◌≤◌, ◌<◌, ◌^◌, ◌∷◌, ℕ, IsTrue, IfErr, IfOk, OnOk};
+ghost use Rattle.std.specs.Prelude.{◌≡◌, ◌↔◌, ◌⊎◌, ◌≤◌, ◌<◌, ◌^◌, ℕ, IsTrue, IfErr, IfOk, OnOk};
 ghost use Rattle.voter_rules.specs.GivingUp.{MayGiveUp, NullifyIsDue};
 ghost use Rattle.simplex_state.specs.State as voting;
 ghost use Rattle.simplex_member.specs.declared.fault.NodeFault.TheVariants as step_fault;
 ghost use Rattle.simplex_member.specs.Layers.{current_of, latest, voter_of};
 ghost use Rattle.simplex_member.specs.Member.{EndsWith, IsGivenUpAt};
-ghost use Rattle.simplex_member.specs.Point.{Polls};
 ghost use Rattle.node_requests.specs.Asking.{AtAnyAsker};
 ghost use Rattle.node_requests.specs.Silence.{IsSilenceOf, SilenceCounts};
-ghost use Rattle.node_requests.specs.Waking.{wakes};
+ghost use Rattle.node_requests.specs.Waking.{after_poll, wakes};
 
 use crate::silence::{Silence, silent_from};
 use node_record::Tables;
@@ -30,13 +29,14 @@ pub fn is_given_up<S: Scheme<D> + Drop, L: Elector<S, D>, D: Digest>(
     tables: &Tables<S, D>,
 ) -> Result<bool, NodeFault>
     ensures looks { OnOk result (AtAnyAsker S.Scheme L.Elector ⟦<S as Speaks<D>>⟧.formats voter.old tables.now
-        (λ f s h. voting.Keeps S.Scheme L.Elector s.voter voter.new (voter_of s (Polls ∷ h)))) }
+        (λ f s h. voting.Keeps S.Scheme L.Elector s.voter voter.new (voter_of s (after_poll s h)))) }
     ensures due { IfOk result (λ is_due.
         AtAnyAsker S.Scheme L.Elector ⟦<S as Speaks<D>>⟧.formats voter.old tables.now (λ f s h.
-        MayGiveUp s.voter (voter_of s (Polls ∷ h)) (current_of s h)
-        → IsTrue is_due ↔ NullifyIsDue s.voter (voter_of s (Polls ∷ h)) (latest h))) }
+        MayGiveUp s.voter (voter_of s (after_poll s h)) (current_of s h)
+        → IsTrue is_due ↔ NullifyIsDue s.voter (voter_of s (after_poll s h)) (latest h))) }
     ensures fault { IfErr result (λ why. why ≡ step_fault.Memory) }
 {
+    the_timeout_is_the_earliest::<S, D>();
     let now = tables.moment();
     match voter.next_timeout(now) {
         Ok(Some((moment, _))) => Ok(moment <= now),
@@ -56,10 +56,10 @@ pub fn next_wake<S: Scheme<D> + Drop, L: Elector<S, D>, D: Digest>(
     tables: &Tables<S, D>,
 ) -> Result<Option<u64>, NodeFault>
     ensures looks { OnOk result (AtAnyAsker S.Scheme L.Elector ⟦<S as Speaks<D>>⟧.formats voter.old tables.now
-        (λ f s h. voting.Keeps S.Scheme L.Elector s.voter voter.new (voter_of s (Polls ∷ h)))) }
+        (λ f s h. voting.Keeps S.Scheme L.Elector s.voter voter.new (voter_of s (after_poll s h)))) }
     ensures wakes { IfOk result (λ wake.
         AtAnyAsker S.Scheme L.Elector ⟦<S as Speaks<D>>⟧.formats voter.old tables.now (λ f s h.
-        IsSilenceOf s silence → (¬ IsGivenUpAt S.Scheme f s (Polls ∷ h) (latest h)) → EndsWith S.Scheme f s (Polls ∷ h) (wakes wake))) }
+        IsSilenceOf s silence → (¬ IsGivenUpAt S.Scheme f s (after_poll s h) (latest h)) → EndsWith S.Scheme f s (after_poll s h) (wakes wake))) }
     ensures fault { IfErr result (λ why. why ≡ step_fault.Memory) }
 {
     the_timeout_is_the_earliest::<S, D>();

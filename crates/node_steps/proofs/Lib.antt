@@ -1,3 +1,4 @@
 mod Testing
 mod Whole
 mod Stepped
+mod OfRecord

@@ -18,7 +18,7 @@ use Rattle.node_core.specs.declared.settings.Settings.{Settings}
 use Rattle.node_core.specs.SettingUp.{IsSetUp}
 use Rattle.node_steps.specs.Keeps.{NodeKeeps}
 use Rattle.node_core.specs.GoingThrough.{HasBegun}
-use Rattle.node_steps.specs.Opening.{IsOpen}
+use Rattle.node_steps.specs.Opening.{IsOpen, MayGoThrough}
 
 module _ {S L D P G C K : Type 0} (g : Ghosts S D P G C) (e : elector.Ghosts L S D P G C) (k : disk.Ghosts K) (f : Formats S D P G C) where
   -- once the record was gone through, the history and the ledger agree: the node of both stands there
@@ -45,14 +45,26 @@ module _ {S L D P G C K : Type 0} (g : Ghosts S D P G C) (e : elector.Ghosts L S
     });
   }
 
-  -- the same of a scheme that is found in several places
+  -- of a scheme that is found in several places: the member may go through what it opened
+  pub ready-by : (c : Config D) (l : L) (me : ℕ) (Readable : Artifact S D P G C → Type 0) (on : K) (now : ℕ) (settings : Settings S) (ledger : Ledger S D K P G C) (own kept lent : S)
+      → kept ≡ own → lent ≡ kept → IsSetUp (setup_of g e c own l me) settings → IsInTime (setup_of g e c own l me) now → OpensOver k f.artifact Readable (g.attests lent) (g.certifies lent) settings.owner on ledger
+      → MayGoThrough g k f.artifact Readable (setup_of g e c kept l me) settings ledger now
+  ready-by c l me Readable on now settings ledger own kept lent is same set_up time over =
+      let set_up_kept : IsSetUp (setup_of g e c kept l me) settings = subst (λ (x : S). IsSetUp (setup_of g e c x l me) settings) (sym is) set_up in
+      let over_kept = subst (λ (x : S). OpensOver k f.artifact Readable (g.attests x) (g.certifies x) settings.owner on ledger) same over in
+      record {
+        set_up = set_up_kept;
+        in_time = subst (λ (x : S). IsInTime (setup_of g e c x l me) now) (sym is) time;
+        on = on;
+        over = subst (λ (o : Owner). OpensOver k f.artifact Readable (g.attests kept) (g.certifies kept) o on ledger) set_up_kept.owner_is over_kept;
+      }
+
+  -- and then it is open
   pub open-by : (c : Config D) (l : L) (me : ℕ) (Readable : Artifact S D P G C → Type 0) (on : K) (now : ℕ) (settings : Settings S) (ledger : Ledger S D K P G C) (node : Node S L D K P G C) (actions : List (Action S D P G C)) (own kept lent : S)
       → kept ≡ own → lent ≡ kept → IsSetUp (setup_of g e c own l me) settings → IsInTime (setup_of g e c own l me) now → OpensOver k f.artifact Readable (g.attests lent) (g.certifies lent) settings.owner on ledger
       → (IsSetUp (setup_of g e c kept l me) settings → IsInTime (setup_of g e c kept l me) now → OpensOver k f.artifact Readable (g.attests kept) (g.certifies kept) (owner_of (setup_of g e c kept l me)) on ledger → IsOpen g e k f (setup_of g e c kept l me) Readable on now node actions)
       → IsOpen g e k f (setup_of g e c own l me) Readable on now node actions
+  unfolding ready-by
   open-by c l me Readable on now settings ledger node actions own kept lent is same set_up time over told =
-      let set_up_kept : IsSetUp (setup_of g e c kept l me) settings = subst (λ (x : S). IsSetUp (setup_of g e c x l me) settings) (sym is) set_up in
-      let time_kept : IsInTime (setup_of g e c kept l me) now = subst (λ (x : S). IsInTime (setup_of g e c x l me) now) (sym is) time in
-      let over_kept = subst (λ (x : S). OpensOver k f.artifact Readable (g.attests x) (g.certifies x) settings.owner on ledger) same over in
-      let over_own = subst (λ (o : Owner). OpensOver k f.artifact Readable (g.attests kept) (g.certifies kept) o on ledger) set_up_kept.owner_is over_kept in
-      subst (λ (x : S). IsOpen g e k f (setup_of g e c x l me) Readable on now node actions) is (told set_up_kept time_kept over_own)
+      let ready = ready-by c l me Readable on now settings ledger own kept lent is same set_up time over in
+      subst (λ (x : S). IsOpen g e k f (setup_of g e c x l me) Readable on now node actions) is (told ready.set_up ready.in_time ready.over)

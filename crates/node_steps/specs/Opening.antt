@@ -1,5 +1,5 @@
 -- How a record is opened: what is wrong with the arguments, and what comes of it.
-use Rattle.std.specs.Prelude.{◌≡◌, ◌≢◌, ◌⊎◌, ◌++◌, ℕ, List, [], ◌∷◌, map, Option, Some, None, Result, IfOk, IfErr, IfSome, OnOk, false}
+use Rattle.std.specs.Prelude.{◌≡◌, ◌≢◌, ◌⊎◌, ◌++◌, ℕ, List, [], ◌∷◌, map, Option, Some, None, Result, IfOk, IfErr, IfSome, OnOk, false, ⊤}
 use Rattle.types_core.specs.declared.scheme.Scheme.{Ghosts}
 use Rattle.messages_certificates.specs.declared.artifact.Artifact.{Artifact}
 use Rattle.types_terms.specs.declared.elector.Elector as elector
@@ -8,8 +8,10 @@ use Rattle.voter_rules.specs.declared.config.ConfigFault.TheVariants as fault
 use Rattle.voter_rules.specs.Configuring.{Applies}
 use Rattle.journal_single.specs.declared.disk.Disk as disk
 use Rattle.journal_single.specs.Disk.{LeavesOnly, counted}
+use Rattle.journal_single.specs.Looking.{IsLeftAsItWas}
 use Rattle.journal_single.specs.Record.{IsForeign, IsReopened}
-use Rattle.node_record.specs.Ledger.{AreFoundOn, IsContradiction}
+use Rattle.node_record.specs.declared.ledger.Ledger.{Ledger}
+use Rattle.node_record.specs.Ledger.{AreFoundOn, IsContradiction, OpensOver}
 use Rattle.simplex_member.specs.declared.action.Action.{Action}
 use Rattle.simplex_member.specs.declared.fault.OpenFault.{OpenFault}
 use Rattle.simplex_member.specs.declared.fault.OpenFault.TheVariants as open_fault
@@ -20,6 +22,8 @@ use Rattle.simplex_member.specs.Packet.{Formats}
 use Rattle.simplex_member.specs.Point.{History}
 use Rattle.simplex_member.specs.Setup.{Setup, IsInTime, owner_of}
 use Rattle.node_core.specs.GoingThrough.{Opens}
+use Rattle.node_core.specs.SettingUp.{IsSetUp}
+use Rattle.node_core.specs.declared.settings.Settings.{Settings}
 use Rattle.node_steps.specs.declared.node.Node.{Node}
 use Rattle.node_steps.specs.Keeps.{NodeKeeps}
 
@@ -29,6 +33,12 @@ early open_fault.NoKey = Some open_fault.NoKey
 early (open_fault.Config x) = Some (open_fault.Config x)
 early open_fault.MomentTooLate = Some open_fault.MomentTooLate
 early x = None
+
+-- the fault is of what stands on the disk: an entry that is none, or that the rules refuse
+abbrev pub IsOfRecord : OpenFault → Type 0
+IsOfRecord (open_fault.Foreign place) = ⊤
+IsOfRecord (open_fault.Contradiction position) = ⊤
+IsOfRecord x = ⊥
 
 -- what may be left of a disk by a crash while its record is opened: it reads as what one before it might have left
 abbrev pub MayBeLeft : {K : Type 0} → disk.Ghosts K → K → List ℕ → Type 0
@@ -43,6 +53,15 @@ module _ {S D P G C : Type 0} (g : Ghosts S D P G C) (s : Setup S D C) where
       (fault.NoParticipants ∷ fault.LeaderTimeoutZero ∷ fault.CertificationNotAboveLeader ∷ fault.SkipNotAboveCertification ∷ fault.SkipNotAboveRetry
       ∷ fault.RetryZero ∷ fault.RetentionZero ∷ fault.TooManyParticipants ∷ [])
       ++ (open_fault.MomentTooLate, IsInTime s now → ⊥) ∷ []
+
+module _ {S D P G C K : Type 0} (g : Ghosts S D P G C) (k : disk.Ghosts K) (spelled : Artifact S D P G C → List ℕ)
+    (Readable : Artifact S D P G C → Type 0) where
+  -- a member that is set up so opened this ledger over some disk, and may go through its record at this moment
+  pub record MayGoThrough (s : Setup S D C) (settings : Settings S) (ledger : Ledger S D K P G C) (now : ℕ) : Type 0 where
+    pub set_up : IsSetUp s settings
+    pub in_time : IsInTime s now
+    pub on : K
+    pub over : OpensOver k spelled Readable (g.attests s.voter.scheme) (g.certifies s.voter.scheme) (owner_of s) on ledger
 
 module _ {S L D P G C K : Type 0} (g : Ghosts S D P G C) (e : elector.Ghosts L S D P G C) (k : disk.Ghosts K) (f : Formats S D P G C) (s : Setup S D C) where
   -- the node was opened on what was found on a disk, all that was due then was done, and these actions are out
@@ -77,6 +96,7 @@ module _ {S L D P G C K : Type 0} (g : Ghosts S D P G C) (e : elector.Ghosts L S
     pub foreign : IfErr answer (λ r. (place : ℕ) → r.0 ≡ open_fault.Foreign place → k.keeps → IsForeign [] Readable f.artifact (k.seen on) place)
     pub contradiction : IfErr answer (λ r. (position index : ℕ) → g.own scheme ≡ Some index → r.0 ≡ open_fault.Contradiction position
         → IsContradiction k f.artifact Readable (g.attests scheme) (g.certifies scheme) (owner_of (setup index)) on position)
+    pub untouched : IfErr answer (λ r. IsOfRecord r.0 → k.keeps → IsLeftAsItWas k.seen k.calls on r.1)
     pub device : IfErr answer (λ r. r.0 ≡ open_fault.Device → k.failed r.1 ≡ counted false (k.failed on))
     pub no_device : IfErr answer (λ r. r.0 ≢ open_fault.Device → k.failed r.1 ≡ k.failed on)
     pub no_fault : IfOk answer (λ r. k.failed (left r) ≡ k.failed on)

@@ -3,6 +3,7 @@
 ghost use Rattle.std.specs.Prelude.{◌≡◌, ◌≢◌, ◌↔◌, ◌⊎◌, ℕ, [], None, Some, IfOk, IfErr, IfSome, OnOk, false, max, unwrap_or};
 ghost use Rattle.messages_certificates.specs.Artifact.{artifact_spelling};
 ghost use Rattle.journal_single.specs.Disk.{LeavesOnly, counted};
+ghost use Rattle.journal_single.specs.Looking.{IsLeftAsItWas};
 ghost use Rattle.journal_single.specs.Record.{IsForeign};
 ghost use Rattle.node_record.specs.Ledger as ledgers;
 ghost use Rattle.node_record.specs.Ledger.{IsContradiction, OpensOver};
@@ -10,10 +11,10 @@ ghost use Rattle.simplex_member.specs.declared.fault.NodeFault.TheVariants as st
 ghost use Rattle.simplex_member.specs.declared.fault.OpenFault.TheVariants as open_fault;
 ghost use Rattle.simplex_member.specs.First.{IsFirst};
 ghost use Rattle.simplex_member.specs.Setup.{Setup, IsInTime, owner_of, setup_of, silence_of};
-ghost use Rattle.node_core.specs.SettingUp.{IsSetUp};
+ghost use Rattle.node_core.specs.SettingUp.{EndsActs, IsSetUp};
 ghost use Rattle.node_due.specs.Acting.{IsLeftByActs};
 ghost use Rattle.node_steps.specs.Keeps.{AtOwn, disk_of};
-ghost use Rattle.node_steps.specs.Opening.{IsOpen, IsOpenAndSettled, MayBeLeftOpen, early, open_tests};
+ghost use Rattle.node_steps.specs.Opening.{IsOfRecord, IsOpen, IsOpenAndSettled, MayBeLeftOpen, MayGoThrough, early, open_tests};
 
 use crate::node::Node;
 use journal_single::{Disk, a_disk_reads_as_one_record};
@@ -77,6 +78,9 @@ impl<S: Scheme<D> + Drop, L: Elector<S, D>, D: Digest, K: Disk> Node<S, L, D, K>
         ensures no_device { IfErr result (λ r. r.0 ≢ open_fault.Device → K.failed r.1 ≡ K.failed disk) }
         ensures no_fault { IfOk result (λ r. K.failed (disk_of r.0) ≡ K.failed disk) }
 
+        // A record that is refused for what stands in it is left as it was: nothing was written or cut.
+        ensures untouched { IfErr result (λ r. IsOfRecord r.0 → K.keeps → IsLeftAsItWas K.seen K.calls disk r.1) }
+
         // What a crash at any moment of the call may leave.
         ensures any_moment { IfOk result (λ r.
             (index : ℕ)
@@ -117,7 +121,9 @@ fn open_over<S: Scheme<D> + Drop, L: Elector<S, D>, D: Digest, K: Disk>(
     ledger: Ledger<S, D, K>,
     now: u64,
 ) -> Result<(Node<S, L, D, K>, Vec<Action<S, D>>), (OpenFault, K)>
-    requires { L.built_for elector (S.size settings.scheme.value) }
+    requires built_for { L.built_for elector (S.size settings.scheme.value) }
+    requires ready { (index : ℕ) × MayGoThrough S.Scheme K.Disk (artifact_spelling D.spelling S.Signature.spelling S.Certificate.spelling)
+        ⟦<S as Speaks<D>>⟧.readable (setup_of S.Scheme L.Elector config.now settings.scheme.value elector index) settings ledger now }
     ensures opened { IfOk result (λ r.
         (on : K) (n index : ℕ)
         → let s = setup_of S.Scheme L.Elector config.now settings.scheme.value elector index in IsSetUp s settings
@@ -165,12 +171,14 @@ fn begin<S: Scheme<D> + Drop, L: Elector<S, D>, D: Digest, K: Disk>(
 
 /// Why a record is not opened, by why what was due then was not done.
 fn not_begun(fault: NodeFault) -> OpenFault
+    requires { fault ≢ step_fault.Failed }
     ensures faults { (result ≡ open_fault.Memory) ⊎ (result ≡ open_fault.Device) }
     ensures device { (result ≡ open_fault.Device) ↔ (fault ≡ step_fault.Device) }
 {
     match fault {
         NodeFault::Device => OpenFault::Device,
-        NodeFault::Memory | NodeFault::Failed => OpenFault::Memory,
+        NodeFault::Memory => OpenFault::Memory,
+        NodeFault::Failed => unreachable!(),
     }
 }
 
@@ -220,6 +228,8 @@ fn member_of<S: Scheme<D>, L: Elector<S, D>, D: Digest>(
     ensures fault { IfErr result
         (λ why. IsFirst (open_tests S.Scheme (setup_of S.Scheme L.Elector config.now scheme.now elector.now 0) config.now now) (Some why)) }
     ensures early { IfErr result (λ why. early why ≡ Some why) }
+    ensures ends { IfOk result (λ me.
+        L.built_for elector.now (S.size scheme.now) → EndsActs (setup_of S.Scheme L.Elector config.now scheme.now elector.now me)) }
 {
     let Some(me) = scheme.me() else {
         return Err(OpenFault::NoKey);
@@ -231,6 +241,8 @@ fn member_of<S: Scheme<D>, L: Elector<S, D>, D: Digest>(
     if longest_timeout(config, &elector.terms()) > u64::MAX - now {
         return Err(OpenFault::MomentTooLate);
     }
+    // The proof takes from their length that terms have views.
+    let _length = elector.terms().length();
     Ok(me)
 }
 
@@ -242,7 +254,8 @@ fn settings_of<S: Scheme<D>, L: Elector<S, D>, D: Digest>(
     elector: &L,
     me: Participant,
 ) -> Settings<S>
-    ensures set_up { S.own scheme.value ≡ Some me → IsSetUp (setup_of S.Scheme L.Elector config.now scheme.value elector.now me) result }
+    ensures set_up { let s = setup_of S.Scheme L.Elector config.now scheme.value elector.now me in
+        S.own scheme.value ≡ Some me → EndsActs s → IsSetUp s result }
     ensures scheme { result.scheme.value ≡ scheme.value }
 {
     let terms = elector.terms();

@@ -10,3 +10,4 @@ pub mod Reply
 pub mod ReplyCodec
 pub mod Stream
 pub mod Taken
+pub mod Counted

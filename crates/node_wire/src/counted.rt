@@ -6,6 +6,7 @@ ghost use Rattle.journal_single.specs.Disk.{counted};
 use crate::streams::{Sink, Source, StreamFault};
 use std::io;
 use std::io::{Read, Write};
+use std::marker::Model;
 
 /// The calls that may be interrupted, one behind another, before that is a fault.
 const MOST_TRIES: u64 = 4_294_967_296;
@@ -17,11 +18,18 @@ pub struct CountedReader<R> {
     failures: u64,
 }
 
+impl<R> Model for CountedReader<R> {
+    ghost use Rattle.node_wire.specs.Counted.{ReaderTold};
+
+    ghost Value = { ReaderTold R };
+
+    ghost view = { λ counted. record { inner = counted.reader; failures = counted.failures } };
+}
+
 impl<R: Read> CountedReader<R> {
     /// No read has failed yet.
     pub fn new(reader: R) -> Self
-        ensures reader { result.reader ≡ reader }
-        ensures failures { result.failures ≡ 0 }
+        ensures { result ≡ record { inner = reader; failures = 0 } }
     {
         CountedReader {
             reader,
@@ -31,15 +39,14 @@ impl<R: Read> CountedReader<R> {
 
     /// The reader alone.
     pub fn into_inner(self) -> R
-        ensures { result ≡ self.reader }
+        ensures { result ≡ self.inner }
     {
         self.reader
     }
 
     /// A fault, which is counted.
     fn fault(&mut self) -> StreamFault
-        ensures reader { self.new.reader ≡ self.old.reader }
-        ensures failures { self.new.failures ≡ counted false self.old.failures }
+        ensures { self.new ≡ record self.old { failures = counted false self.old.failures } }
     {
         self.failures = self.failures.saturating_add(1);
         StreamFault
@@ -47,7 +54,7 @@ impl<R: Read> CountedReader<R> {
 }
 
 impl<R: Read> Source for CountedReader<R> {
-    ghost remaining = { λ counted. R.remaining counted.reader };
+    ghost remaining = { λ counted. R.remaining counted.inner };
 
     ghost failed = { λ counted. counted.failures };
 
@@ -95,12 +102,18 @@ pub struct CountedWriter<W> {
     is_flushed: bool,
 }
 
+impl<W> Model for CountedWriter<W> {
+    ghost use Rattle.node_wire.specs.Counted.{WriterTold};
+
+    ghost Value = { WriterTold W };
+
+    ghost view = { λ counted. record { inner = counted.writer; failures = counted.failures; is_flushed = counted.is_flushed } };
+}
+
 impl<W: Write> CountedWriter<W> {
     /// No write has failed yet.
     pub fn new(writer: W) -> Self
-        ensures writer { result.writer ≡ writer }
-        ensures failures { result.failures ≡ 0 }
-        ensures flushed { result.is_flushed ≡ true }
+        ensures { result ≡ record { inner = writer; failures = 0; is_flushed = true } }
     {
         CountedWriter {
             writer,
@@ -111,15 +124,14 @@ impl<W: Write> CountedWriter<W> {
 
     /// The writer alone.
     pub fn into_inner(self) -> W
-        ensures { result ≡ self.writer }
+        ensures { result ≡ self.inner }
     {
         self.writer
     }
 
     /// A fault, which is counted.
     fn fault(&mut self) -> StreamFault
-        ensures writer { self.new.writer ≡ self.old.writer }
-        ensures failures { self.new.failures ≡ counted false self.old.failures }
+        ensures { self.new ≡ record self.old { failures = counted false self.old.failures } }
     {
         self.failures = self.failures.saturating_add(1);
         StreamFault
@@ -127,7 +139,7 @@ impl<W: Write> CountedWriter<W> {
 }
 
 impl<W: Write> Sink for CountedWriter<W> {
-    ghost contents = { λ counted. W.contents counted.writer };
+    ghost contents = { λ counted. W.contents counted.inner };
 
     ghost is_flushed = { λ counted. counted.is_flushed ≡ true };
 

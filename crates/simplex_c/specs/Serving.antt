@@ -1,5 +1,9 @@
 -- How a node's opening and its calls are told.
-use Rattle.std.specs.Prelude.{ℕ, Option, None, Some, Result, Ok, Err}
+use Rattle.std.specs.Prelude.{◌⊎◌, nat_eq, not, ℕ, Bool, List, Option, None, Some, Result, Ok, Err}
+use Rattle.cli_opening.specs.Looking.{IsBarred, IsFoundIn}
+use Rattle.cli_opening.specs.declared.looking.Barred.{Barred}
+use Rattle.cli_opening.specs.declared.looking.Barred.TheVariants as barred
+use Rattle.cli_opening.specs.declared.looking.Found.{Found}
 use Rattle.simplex_member.specs.declared.fault.IoFault.{IoFault}
 use Rattle.simplex_member.specs.declared.fault.IoFault.TheVariants as io
 use Rattle.simplex_member.specs.declared.fault.NodeFault.{NodeFault}
@@ -8,6 +12,35 @@ use Rattle.simplex_member.specs.declared.fault.OpenFault.{OpenFault}
 use Rattle.simplex_member.specs.declared.fault.OpenFault.TheVariants as open_fault
 use Rattle.simplex_c.specs.declared.status.Status.{Status}
 use Rattle.simplex_c.specs.declared.status.Status.TheVariants as status
+
+-- any number but 0 asks for it
+abbrev pub asks : ℕ → Bool
+asks number = not (nat_eq number 0)
+
+-- these bytes are a lawful record of this member of so many, as a crash may leave one, or are to be cut to one
+abbrev pub IsLookedAt : ℕ → ℕ → Bool → List ℕ → Type 0
+IsLookedAt member members cuts bytes = (found : Found) × IsFoundIn member members cuts bytes found
+
+-- behind the entries of these bytes stands what no crash leaves: the gate at this place isn't closed, or more stands behind it than that
+abbrev pub IsTornAt : ℕ → ℕ → List ℕ → ℕ → Type 0
+IsTornAt member members bytes place = IsBarred member members bytes (barred.Unclosed place) ⊎ IsBarred member members bytes (barred.Behind place)
+
+-- the status of bytes that are left as they are, and the place that is named
+abbrev pub barred_status : Barred → Status
+barred_status barred.Memory = status.Memory
+barred_status barred.Device = status.Device
+barred_status barred.NoRecord = status.NoRecord
+barred_status (barred.Foreign place) = status.Foreign
+barred_status (barred.Unlawful position) = status.Refused
+barred_status (barred.Unclosed place) = status.Torn
+barred_status (barred.Behind place) = status.Torn
+
+abbrev pub barred_place : Barred → Option ℕ
+barred_place (barred.Foreign place) = Some place
+barred_place (barred.Unlawful position) = Some position
+barred_place (barred.Unclosed place) = Some place
+barred_place (barred.Behind place) = Some place
+barred_place why = None
 
 -- the status of a record that was not opened, and the place that is named
 abbrev pub unopened_status : OpenFault → Status

@@ -16,6 +16,8 @@ status_number status.Refused = 7
 status_number status.Foreign = 8
 status_number status.Device = 9
 status_number status.Failed = 10
+status_number status.Torn = 11
+status_number status.NoRecord = 12
 
 -- two numbers name a place, or none
 abbrev pub Names : ℕ → ℕ → Option ℕ → Type 0

@@ -1,6 +1,8 @@
 //! A member's node for callers in C, which hold it between two calls.
 
 ghost use Rattle.std.specs.Prelude.{◌≡◌, ◌≢◌, ◌⊎◌, ◌≤◌};
+ghost use Rattle.journal_look.specs.Look.{BeginsLikeOne};
+ghost use Rattle.simplex_c.specs.Serving.{IsLookedAt, IsTornAt, asks};
 
 use crate::found::Found;
 use crate::handle::Handle;
@@ -11,13 +13,15 @@ use std::alloc::Global;
 /// Opens a member's node at moment 0 over its record's bytes, which the host keeps; what that hands out waits as the first reply.
 ///
 /// Answers 0 where it is open; 1 where memory ran out; 2 where there is no such member, or a node is open in `node`; 7 with the
-/// artifact of the record that the rules refuse; 8 with the place of an entry that is no artifact, in bytes; and 9 where the host
-/// could not be asked.
+/// artifact of the record that the rules refuse; 8 with the place of an entry that is no artifact, in bytes; 9 where the host could
+/// not be asked; 11 with the place of the gate behind which stands what no crash leaves, or which isn't closed, unless `cuts` isn't 0;
+/// and 12 where the bytes begin as no record does.
 #[unsafe(no_mangle)]
 pub extern "C" fn voumlis_proved_node_open(
     alloc: Global,
     members: u16,
     member: u16,
+    cuts: u32,
     stored: &[u8],
     node: &mut Handle,
     found: &mut Found,
@@ -26,9 +30,12 @@ pub extern "C" fn voumlis_proved_node_open(
     ensures occupied { node.old.live ≢ 0 → result ≡ 2 }
     ensures opened { result ≡ 0 → node.new.live ≡ 1 }
     ensures unopened { result ≢ 0 → node.new ≡ node.old }
-    ensures named { (result ≡ 7) ⊎ (result ≡ 8) → found.new.named ≡ 1 }
-    ensures unnamed { (result ≡ 0) ⊎ (result ≡ 9) → found.new.named ≡ 0 }
-    ensures statuses { result ≤ 10 }
+    ensures looked { result ≡ 0 → IsLookedAt member members (asks cuts) stored.now }
+    ensures torn { result ≡ 11 → (cuts ≡ 0) × IsTornAt member members stored.now found.new.place }
+    ensures no_record { result ≡ 12 → ¬ BeginsLikeOne stored.now }
+    ensures named { (result ≡ 7) ⊎ ((result ≡ 8) ⊎ (result ≡ 11)) → found.new.named ≡ 1 }
+    ensures unnamed { (result ≡ 0) ⊎ ((result ≡ 9) ⊎ (result ≡ 12)) → found.new.named ≡ 0 }
+    ensures statuses { result ≤ 12 }
 {
     if member >= members {
         return Status::Argument.number();
@@ -36,7 +43,7 @@ pub extern "C" fn voumlis_proved_node_open(
     if node.live != 0 {
         return Status::Argument.number();
     }
-    opened(alloc, members, member, stored, node, found).number()
+    opened(alloc, members, member, cuts != 0, stored, node, found).number()
 }
 
 /// Has a node answer events, one behind another; the replies wait behind those that were not taken yet.

@@ -1,20 +1,49 @@
 //! Calls on a member's node.
 
-ghost use Rattle.std.specs.Prelude.{◌≡◌, ◌≢◌, ◌<◌, ◌⊎◌, Ok, Err};
+ghost use Rattle.std.specs.Prelude.{◌≡◌, ◌≢◌, ◌<◌, ◌⊎◌, Ok, Err, false};
+ghost use Rattle.journal_look.specs.Look.{BeginsLikeOne};
 ghost use Rattle.simplex_c.specs.Statuses.{Names};
-ghost use Rattle.simplex_c.specs.Serving.{ending_status, run_place, run_status, unopened_place, unopened_status, unstepped_status};
-ghost use Rattle.simplex_c.specs.declared.status.Status.TheVariants.{Argument, Device, Done, Foreign, Invalid, Refused, Room};
+ghost use Rattle.simplex_c.specs.Serving.{IsLookedAt, IsTornAt, barred_place, barred_status, ending_status, run_place, run_status, unopened_place, unopened_status, unstepped_status};
+ghost use Rattle.simplex_c.specs.declared.status.Status.TheVariants.{Argument, Device, Done, Foreign, Invalid, NoRecord, Refused, Room, Torn};
 
 use crate::found::Found;
 use crate::handle::Handle;
 use crate::requests::take_all;
 use crate::session::Session;
 use crate::status::Status;
+use cli_opening::{Barred, look_at};
 use simplex_member::{IoFault, NodeFault, OpenFault};
 use std::alloc::Global;
 
-/// Opens a member's node over its record, where none is open yet.
+/// Opens a member's node over its record, where none is open yet and these bytes are one as a crash may leave it. Where `cuts`, its last
+/// gate and what stands behind it may be anything.
+#[tactic(auto, using(crate::proofs::Looked::named_by, crate::proofs::Looked::never_done, crate::proofs::Looked::no_record_by, crate::proofs::Looked::torn_by, crate::proofs::Looked::unnamed_by))]
 pub(crate) fn opened(
+    alloc: Global,
+    members: u16,
+    member: u16,
+    cuts: bool,
+    stored: &[u8],
+    node: &mut Handle,
+    found: &mut Found,
+) -> Status
+    requires { member < members }
+    ensures opened { result ≡ Done → node.new.live ≡ 1 }
+    ensures unopened { result ≢ Done → node.new ≡ node.old }
+    ensures looked { result ≡ Done → IsLookedAt member members cuts stored.now }
+    ensures torn { result ≡ Torn → (cuts ≡ false) × IsTornAt member members stored.now found.new.place }
+    ensures no_record { result ≡ NoRecord → ¬ BeginsLikeOne stored.now }
+    ensures named { (result ≡ Refused) ⊎ ((result ≡ Foreign) ⊎ (result ≡ Torn)) → found.new.named ≡ 1 }
+    ensures unnamed { (result ≡ Done) ⊎ ((result ≡ Device) ⊎ (result ≡ NoRecord)) → found.new.named ≡ 0 }
+{
+    match look_at(alloc, stored, member, members, cuts) {
+        Ok(_) => begun(alloc, members, member, stored, node, found),
+        Err(why) => left(why, found),
+    }
+}
+
+/// Opens a member's node over its record, where none is open yet.
+fn begun(
     alloc: Global,
     members: u16,
     member: u16,
@@ -25,6 +54,7 @@ pub(crate) fn opened(
     requires { member < members }
     ensures opened { result ≡ Done → node.new.live ≡ 1 }
     ensures unopened { result ≢ Done → node.new ≡ node.old }
+    ensures whole { (result ≢ Torn) × (result ≢ NoRecord) }
     ensures named { (result ≡ Refused) ⊎ (result ≡ Foreign) → found.new.named ≡ 1 }
     ensures unnamed { (result ≡ Done) ⊎ (result ≡ Device) → found.new.named ≡ 0 }
 {
@@ -35,6 +65,33 @@ pub(crate) fn opened(
             Status::Done
         }
         Err(fault) => unopened(fault, found),
+    }
+}
+
+/// Why bytes are left as they are, and the place that is named, if one is.
+fn left(why: Barred, found: &mut Found) -> Status
+    ensures status { result ≡ barred_status why }
+    ensures place { Names found.new.named found.new.place (barred_place why) }
+{
+    found.tell(0, place_of(why));
+    match why {
+        Barred::Memory => Status::Memory,
+        Barred::Device => Status::Device,
+        Barred::NoRecord => Status::NoRecord,
+        Barred::Foreign(_) => Status::Foreign,
+        Barred::Unlawful(_) => Status::Refused,
+        Barred::Unclosed(_) | Barred::Behind(_) => Status::Torn,
+    }
+}
+
+/// The place that is named with that.
+fn place_of(why: Barred) -> Option<u64>
+    ensures { result ≡ barred_place why }
+{
+    match why {
+        Barred::Foreign(place) | Barred::Unclosed(place) | Barred::Behind(place) => Some(place),
+        Barred::Unlawful(position) => Some(position as u64),
+        Barred::Memory | Barred::Device | Barred::NoRecord => None,
     }
 }
 
@@ -166,6 +223,7 @@ fn unopened(fault: OpenFault, found: &mut Found) -> Status
     ensures place { Names found.new.named found.new.place (unopened_place fault) }
     ensures named { (result ≡ Refused) ⊎ (result ≡ Foreign) → found.new.named ≡ 1 }
     ensures unnamed { (result ≡ Done) ⊎ (result ≡ Device) → found.new.named ≡ 0 }
+    ensures whole { (result ≢ Torn) × (result ≢ NoRecord) }
 {
     match fault {
         OpenFault::Foreign(place) => {

@@ -28,6 +28,10 @@ pub(crate) enum Status {
     Device,
     /// A step failed before: the record has to be opened again.
     Failed,
+    /// Behind a record's entries stands what no crash leaves.
+    Torn,
+    /// The bytes begin as no record does.
+    NoRecord,
 }
 
 impl Status {
@@ -48,6 +52,8 @@ impl Status {
             Status::Foreign => 8,
             Status::Device => 9,
             Status::Failed => 10,
+            Status::Torn => 11,
+            Status::NoRecord => 12,
         }
     }
 }

@@ -17,7 +17,7 @@ mod writing;
 pub use fault::PairFault;
 pub use history::{PairEvent, PairHistory, PairRequest, run_pair};
 pub use journal_single::{
-    BOUND, Crash, Disk, DiskFault, Entries, Event, FileDisk, History, Journal, JournalFault,
+    BOUND, Crash, Disk, DiskFault, Entries, Event, FileDisk, Found, History, Journal, JournalFault,
     MemoryDisk, Request, a_disk_reads_as_one_record, read_entries, run,
 };
 pub use pair::Pair;

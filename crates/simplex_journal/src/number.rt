@@ -5,27 +5,13 @@ ghost use Rattle.journal_single.specs.Disk.{counted};
 ghost use Rattle.journal_single.specs.Record.{size};
 ghost use Rattle.simplex_journal.specs.Generation.{IsNumber, IsOf};
 
-use journal_single::{Disk, DiskFault};
+use journal_single::{Disk, DiskFault, number_at};
 
 /// The first byte of a disk that holds a generation.
 pub(crate) const MARK: u8 = 2;
 
 /// How many bytes stand in front of a generation's record.
 const HEAD: u64 = 9;
-
-/// The number that four bytes spell from this place on, most significant first.
-fn number_at(bytes: &[u8], at: usize) -> u32
-    requires within { at + 4 ≤ length bytes.now }
-    ensures number { result ≡ size (get_or bytes.now at 0) (get_or bytes.now (at + 1) 0) (get_or bytes.now (at + 2) 0) (get_or bytes.now (at + 3) 0) }
-    ensures greatest { result ≡ 2 ^ 32 - 1
-        → (get_or bytes.now at 0 ≡ 255) × (get_or bytes.now (at + 1) 0 ≡ 255) × (get_or bytes.now (at + 2) 0 ≡ 255) ×
-        (get_or bytes.now (at + 3) 0 ≡ 255) }
-{
-    bytes[at] as u32 * 0x100_0000
-        + bytes[at + 1] as u32 * 0x1_0000
-        + bytes[at + 2] as u32 * 0x100
-        + bytes[at + 3] as u32
-}
 
 /// The number of the generation that these bytes hold, 0 where they hold none.
 pub fn generation_of(bytes: &[u8]) -> u32

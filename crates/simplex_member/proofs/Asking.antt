@@ -40,7 +40,7 @@ use Rattle.simplex_member.proofs.Reporting.{one}
 use Rattle.simplex_member.proofs.Telling.{apart}
 
 -- a view with room has a number of 64 bits
-room-small : (views view : ℕ) → 0 < views → HasRoom views view → view < 2 ^ 64
+pub room-small : (views view : ℕ) → 0 < views → HasRoom views view → view < 2 ^ 64
 room-small views view some room = omega (arith, room, term_end-above views view some)
 
 -- a view that may be spoken of, where terms had no views, is no later than the current one, or the first

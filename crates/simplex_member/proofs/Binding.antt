@@ -37,7 +37,7 @@ use Rattle.simplex_member.proofs.Rising.{all-rise}
 use Rattle.simplex_member.proofs.Telling.{apart}
 use Rattle.simplex_member.proofs.Lists.{if-some, same-number, some-is}
 
-is-some : {X : Type 0} (o : Option X) → IsSome o → (x : X) × (o ≡ Some x)
+pub is-some : {X : Type 0} (o : Option X) → IsSome o → (x : X) × (o ≡ Some x)
 is-some None some = absurd (apart some)
 is-some (Some x) some = (x, refl)
 

@@ -74,7 +74,7 @@ module _ {S D P G C : Type 0} where
       go false = is
   complete-stays k e r is = is
 
-  complete-new : (c : Certificate S D P G C) (r : votes.History S D P G C) → is_complete (certificate_kind c) (Certified c ∷ r) ≡ true
+  pub complete-new : (c : Certificate S D P G C) (r : votes.History S D P G C) → is_complete (certificate_kind c) (Certified c ∷ r) ≡ true
   complete-new (certificate.Notarization c) r = refl
   complete-new (certificate.Nullification c) r = refl
   complete-new (certificate.Finalization c) r = refl
@@ -91,7 +91,7 @@ module _ {S D P G C : Type 0} where
       go (Some c) e = rw e (complete-stays k (Certified c) r is)
   made-stays false k made batch r is = is
 
-  complete-on : (p : Point S D P G C) (h : History S D P G C) (view : ℕ) (k : Kind) → is_complete k (all_votes view h) ≡ true → is_complete k (all_votes view (p ∷ h)) ≡ true
+  pub complete-on : (p : Point S D P G C) (h : History S D P G C) (view : ℕ) (k : Kind) → is_complete k (all_votes view h) ≡ true → is_complete k (all_votes view (p ∷ h)) ≡ true
   complete-on (Found (artifact.Notarize w) taken) h view k is = stays-at (w.proposal.round.view == view) k (Cast (vote.Notarize w)) (all_votes view h) is
   complete-on (Found (artifact.Notarization c) taken) h view k is = stays-at (c.proposal.round.view == view) k (Certified (certificate.Notarization c)) (all_votes view h) is
   complete-on (Found (artifact.Certification r ok) taken) h view k is = is

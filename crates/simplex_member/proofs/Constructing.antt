@@ -43,7 +43,7 @@ use Rattle.simplex_member.proofs.Raising.{certificate-stated}
 use Rattle.simplex_member.proofs.Telling.{apart}
 
 -- a committee of some has a quorum of some
-quorum-some : (n : ℕ) → 0 < n → 0 < quorum n
+pub quorum-some : (n : ℕ) → 0 < n → 0 < quorum n
 quorum-some n some = let few = faults-few n (omega (arith, some)) in omega (arith, few, some)
 
 both-none : {X : Type 0} (b : Bool) (xs ys : List X) → xs ≡ [] → ys ≡ [] → (if b then xs else ys) ≡ []

@@ -1,3 +1,4 @@
+mod Pigeons
 mod Comparing
 mod Lists
 mod Growing
@@ -53,3 +54,11 @@ mod Coming
 mod Completing
 mod Constructing
 mod Rereading
+mod Staying
+mod Turning
+mod Adding
+mod Marking
+mod Lacking
+mod Once
+mod Ending
+mod Ranging

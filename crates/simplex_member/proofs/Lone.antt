@@ -166,7 +166,7 @@ module _ {S D P G C : Type 0} (s : views.Setup S C) (n me : ℕ) (own : s.me ≡
       (below-if n ((view == term_start s.length view) && option_eq nat_eq s.me (scheduled_leader s view)) s.me (subst (λ (o : Option ℕ). Below n o) (sym own) member))
 
   -- whoever leads a view is a member
-  leader-below : (h : List (views.Point S D P G C)) (view : ℕ) → Below n (leader s h view)
+  pub leader-below : (h : List (views.Point S D P G C)) (view : ℕ) → Below n (leader s h view)
   leader-below [] view = tt
   leader-below (views.pruned ∷ h) view = below-kept n (nat_lt view (views.min_active s h)) (leader s h view) (leader-below h view)
   leader-below (x ∷ h) view = below-extend n (λ v. option_or (named s x v) (named_early s (x ∷ h) v)) (inherits s (x ∷ h)) (leader s h)
@@ -237,7 +237,7 @@ module _ {S D P G C : Type 0} where
   voted-now (Judged r ok) w act is = absurd (apart act)
   voted-now p w act is = absurd (none-some (artifact.Nullify w) is)
 
-  act-latest : (p : Point S D P G C) (h : History S D P G C) → is_act p ≡ true → latest (p ∷ h) ≡ latest h
+  pub act-latest : (p : Point S D P G C) (h : History S D P G C) → is_act p ≡ true → latest (p ∷ h) ≡ latest h
   act-latest (Opened now) h act = absurd (apart act)
   act-latest (Told now) h act = absurd (apart act)
   act-latest p h act = refl
@@ -274,7 +274,7 @@ module _ {S D P G C : Type 0} where
 
 module _ {S D P G C : Type 0} (g : Ghosts S D P G C) (f : Formats S D P G C) (s : Setup S D C) where
   -- the latest moment lies early enough
-  latest-early : (h : History S D P G C) → AreAllowed g f s h → h ≢ [] → IsInTime s (latest h)
+  pub latest-early : (h : History S D P G C) → AreAllowed g f s h → h ≢ [] → IsInTime s (latest h)
   latest-early [] all some = absurd (some refl)
   latest-early (Opened now ∷ h) all some = all.0.due
   latest-early (Told now ∷ h) all some = all.0.due.1
@@ -435,7 +435,7 @@ module _ {S D P G C : Type 0} (g : Ghosts S D P G C) (f : Formats S D P G C) (s 
         act-puts (Leads at index) h all q act now low view enters_so = tt
         act-puts (Forwards at x) h all q act now low view enters_so = (tt, tt)
         act-puts (Constructs at kind batch) h all q act now low view enters_so = made-puts now low batch.certificate view enters_so
-        act-puts (Latches at why) h all q act now low view enters_so = absurd (no-reason h all at why q.due.0)
+        act-puts (Latches at why) h all q act now low view enters_so = absurd (no-reason h all at why q.due.there)
         act-puts Polls h all q act now low view enters_so = (tt, tt)
         act-puts (AsksBuild number handoff context) h all q act now low view enters_so = (tt, tt)
         act-puts (AsksVerify number context x) h all q act now low view enters_so = ((tt, tt), tt)

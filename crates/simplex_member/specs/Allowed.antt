@@ -114,6 +114,17 @@ module _ {S D P G C : Type 0} (g : Ghosts S D P G C) (f : Formats S D P G C) (s 
   HasReason h view reason.InvalidProposal = (p : Proposal D) × IsInvalid (member_of s) (known_of s h) view p
   HasReason h view why = ⊥
 
+  -- a reason to give a view up is due: it is there and counts, and none came before, nor was the view decided
+  pub record LatchIsDue (h : History S D P G C) (view : ℕ) (why : TimeoutReason) : Type 0 where
+    pub there : HasReason h view why
+    pub counts : MayLatch s.voter (voter_of s h) view why
+    pub first : past.latch (seen s.voter (voter_of s h) view) ≡ None
+    pub undecided : past.is_undecided (seen s.voter (voter_of s h) view) ≡ true
+
+  -- once the current view was given up, it is known when that is due again
+  abbrev pub RetryIsKnown : History S D P G C → Type 0
+  RetryIsKnown h = past.RetryIsKnown (seen s.voter (voter_of s h) (current_of s h))
+
   -- a handoff is to stop: the reason why
   abbrev pub IsStopped : History S D P G C → Context D P → Type 0
   IsStopped h context = (why : HandoffAbandonedReason)
@@ -206,8 +217,8 @@ module _ {S D P G C : Type 0} (g : Ghosts S D P G C) (f : Formats S D P G C) (s 
   IsDue h (Forwards view p) = IsUp (stage s h view) × (forwardable (votes_of s h view) s.me ≡ Some p)
   IsDue h (Constructs view kind batch) = (stage s h view ≡ Collected) × (next_kind f.same (votes_setup s g h view) (votes_of s h view) ≡ Some kind)
       × IsBatch g f.same (votes_setup s g h view) kind (votes_of s h view) batch
-  IsDue h (Latches view why) = HasReason h view why × MayLatch s.voter (voter_of s h) view why
-  IsDue h Polls = ⊤
+  IsDue h (Latches view why) = LatchIsDue h view why
+  IsDue h Polls = ¬ RetryIsKnown h
   IsDue h (AsksBuild number handoff context) = AsksFor h number handoff context
   IsDue h (AsksVerify number context p) = AsksToVerify h number context p
   IsDue h (AsksCertify p) = CertifyIsDue (member_of s) (known_of s h) p.round.view p

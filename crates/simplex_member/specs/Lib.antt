@@ -9,6 +9,7 @@ pub mod Deeds
 pub mod Refusals
 pub mod Allowed
 pub mod Member
+pub mod Doing
 pub mod Lives
 pub mod Laws
 pub mod Sent

@@ -1,5 +1,5 @@
 -- The member model: how a node goes from point to point, what a step and an opening are, and a whole run.
-use Rattle.std.specs.Prelude.{◌≡◌, ◌≢◌, ◌⊎◌, ◌<◌, ◌++◌, ℕ, Bool, true, map, List, [], ◌∷◌, Option, Some, None, IsSome, MatchOption, ⊤}
+use Rattle.std.specs.Prelude.{◌≡◌, ◌≢◌, ◌⊎◌, ◌<◌, ◌++◌, ℕ, Bool, map, List, [], ◌∷◌, Option, Some, None, MatchOption, ⊤}
 use Rattle.types_core.specs.declared.context.Context.{Context}
 use Rattle.types_core.specs.declared.proposal.Proposal.{Proposal}
 use Rattle.types_core.specs.declared.scheme.Scheme.{Ghosts}
@@ -7,8 +7,7 @@ use Rattle.messages_certificates.specs.declared.artifact.Artifact.{Artifact}
 use Rattle.simplex_messages.specs.VoteParts.{vote_signer}
 use Rattle.voter_history.specs.declared.timeout_reason.TimeoutReason.{TimeoutReason}
 use Rattle.voter_history.specs.declared.timeout_reason.TimeoutReason.TheVariants as reason
-use Rattle.voter_history.specs.Past as past
-use Rattle.voter_history.specs.History.{latched, seen}
+use Rattle.voter_history.specs.History.{latched}
 use Rattle.voter_history.specs.Leaders.{leader}
 use Rattle.voter_rules.specs.VotesDue.{NotarizeIsDue, FinalizeIsDue}
 use Rattle.voter_rules.specs.GivingUp.{NullifyIsDue, MayLatch}
@@ -22,7 +21,7 @@ use Rattle.simplex_member.specs.declared.action.Action.{Action}
 use Rattle.simplex_member.specs.declared.action.Reply.{Reply}
 use Rattle.simplex_member.specs.declared.event.Event.{Event}
 use Rattle.simplex_member.specs.declared.event.Event.TheVariants as event
-use Rattle.simplex_member.specs.Allowed.{Allowed, AskIsDue, HasReason, IsGivenBack, IsSilent}
+use Rattle.simplex_member.specs.Allowed.{Allowed, AskIsDue, IsGivenBack, IsSilent, LatchIsDue, RetryIsKnown}
 use Rattle.simplex_member.specs.Asked.{HasNumber, build_at}
 use Rattle.simplex_member.specs.Deeds.{Deed, Wakes, AreActions, all_deeds}
 use Rattle.simplex_member.specs.First.{IsFirst}
@@ -71,24 +70,12 @@ module _ {S D P G C : Type 0} (g : Ghosts S D P G C) (f : Formats S D P G C) (s 
 
   -- ---- that nothing is due
 
-  -- a reason to give a view up is due: it is there and counts, and none came before, nor was the view decided
-  pub record LatchIsDue (h : History S D P G C) (view : ℕ) (why : TimeoutReason) : Type 0 where
-    pub there : HasReason g f s h view why
-    pub counts : MayLatch s.voter (voter_of s h) view why
-    pub first : past.latch (seen s.voter (voter_of s h) view) ≡ None
-    pub undecided : past.is_undecided (seen s.voter (voter_of s h) view) ≡ true
-
-  -- once the current view was given up, it is known when that is due again
-  abbrev pub RetryIsKnown : History S D P G C → Type 0
-  RetryIsKnown h = past.has_nullified (seen s.voter (voter_of s h) (current_of s h)) ≡ true
-      → IsSome (past.retry (seen s.voter (voter_of s h) (current_of s h)))
-
   -- no own vote is due
   pub record NoVoteIsDue (h : History S D P G C) : Type 0 where
     pub no_notarize : (view : ℕ) → ¬ NotarizeIsDue (member_of s) (known_of s h) view
     pub no_nullify : ¬ NullifyIsDue s.voter (voter_of s h) (latest h)
     pub no_finalize : (view : ℕ) → ¬ FinalizeIsDue (member_of s) (known_of s h) view
-    pub retry_known : RetryIsKnown h
+    pub retry_known : RetryIsKnown g f s h
 
   -- nothing is to be asked of the application, and no build is to be given back
   pub record NoRequestIsDue (h : History S D P G C) : Type 0 where
@@ -119,7 +106,7 @@ module _ {S D P G C : Type 0} (g : Ghosts S D P G C) (f : Formats S D P G C) (s 
     pub requests : NoRequestIsDue h
     pub asks : NoAskIsDue h
     pub constructions : NoConstructionIsDue h
-    pub no_reason : (view : ℕ) (why : TimeoutReason) → ¬ LatchIsDue h view why
+    pub no_reason : (view : ℕ) (why : TimeoutReason) → ¬ LatchIsDue g f s h view why
 
   -- ---- when the node wants to be told the time
 

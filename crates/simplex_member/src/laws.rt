@@ -4,6 +4,7 @@ ghost use Rattle.std.specs.Prelude.{◌≡◌, ◌<◌, ◌≤◌, ◌^◌, ℕ}
 ghost use Rattle.types_codec.specs.Codec.{Readable};
 ghost use Rattle.messages_certificates.specs.declared.artifact.Artifact.{Artifact};
 ghost use Rattle.messages_certificates.specs.Artifact.{artifact_fits, artifact_spelling, artifact_within};
+ghost use Rattle.simplex_member.specs.Doing.{ActsEnd, ActsEndAnyhow, NothingIsDoneTwice};
 ghost use Rattle.simplex_member.specs.Laws.{AcceptedAreKnown, Agree, AgreeIfHonest, AreReadBack, AwaitedIsJudgeable, AwaitedMayBeRecorded, BlockedByRefusalAlone, CanBeSent, ConstructionsBlockNone, CorrectVotesAreSound, CorrectVotesContradictNone, DeedsAreDone, DeedsAreOfPoints, DueFinalizeMayBeRecorded, DueIsBound, DueMayBeRecorded, DueNullifyMayBeRecorded, EarlyIsInTime, EmptyIsOpened, FinalizeAlike, HandedCertificatesAreSound, IsExact, KnownNullifiesAreRecorded, LeftIsFound, LeftStandsOnGround, LieOnOneChain, LivesLeaveLawful, LivesLeaveReadable, MadeAreHonest, MadeAreSound, MadeIsAllowed, MadeListVotes, NeverContradicts, NeverForeign, NextStandsOnGround, NoQuorumIsLost, NoneIsBlamed, OneIsRead, OwnVotesAgree, PacketsAreInGrammar, ProposalsLieInTheirViews, ReachedAreGoneTo, RecordLaws, RecordsGrow, RecordsStandOnGround, RecordsStayLawful, ReportedCertify, ReportsAreHonest, RequestsAreTracked, RoundLaws, RunsAreStretches, StepsOfSeveralRaiseLittle, StepsRaiseLittle, ViewsNeverFall, VotersAreOrderly, VotersTellTheRecord, VotesAreLawful, VotesAreRecorded, VotesWereDue};
 ghost use Rattle.simplex_member.specs.Packet.{Formats, IsRecordable, formats};
 ghost use Rattle.simplex_member.specs.Setup.{Setup};
@@ -120,6 +121,23 @@ pub fn votes_are_recorded<S: Scheme<D>, D: Digest>()
     ensures due { (f : Formats S D S.PublicKey S.Signature S.Certificate) (s : Setup S D S.Certificate) → VotesWereDue S.Scheme f s }
     ensures recorded { (f : Formats S D S.PublicKey S.Signature S.Certificate) (s : Setup S D S.Certificate) → VotesAreRecorded S.Scheme f s }
 {}
+
+/// Behind one event nothing is done twice: no view is told its leader twice, none is voted in twice with one kind, nothing is asked of
+/// one member twice, and so on. So acts end: there are no more of them than there are things to do with the views and members that
+/// they are about, and numbers; and as views and numbers have 64 bits, that is a number that is known beforehand.
+pub fn acts_end<S: Scheme<D>, D: Digest>()
+    ensures once { (f : Formats S D S.PublicKey S.Signature S.Certificate) (s : Setup S D S.Certificate)
+        → IsExact f
+        → NothingIsDoneTwice S.Scheme f s }
+    ensures ends { (f : Formats S D S.PublicKey S.Signature S.Certificate) (s : Setup S D S.Certificate) → IsExact f → ActsEnd S.Scheme f s }
+    ensures anyhow { (f : Formats S D S.PublicKey S.Signature S.Certificate) (s : Setup S D S.Certificate)
+        → IsExact f
+        → ActsEndAnyhow S.Scheme f s }
+{
+    records_obey::<S, D>();
+    rounds_obey::<S, D>();
+    what_is_known_is_recorded::<S, D>();
+}
 
 /// A step raises the current view at most as often as there were views that were kept when it began, plus two: once
 /// by the event, once where it stands then, and once by each view whose votes had come up, or that the voter tracked.

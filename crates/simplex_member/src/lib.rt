@@ -15,7 +15,7 @@ pub use asked::Asked;
 pub use event::{Channel, Event};
 pub use fault::{IoFault, NodeFault, OpenFault};
 pub use laws::{
-    accepted_votes_are_known, agreement_of_lives, awaited_verdicts_may_be_taken,
+    accepted_votes_are_known, acts_end, agreement_of_lives, awaited_verdicts_may_be_taken,
     blocked_by_refusal_alone, correct_votes_are_sound, deeds_are_done, deeds_are_of_their_points,
     due_is_bound, due_may_be_recorded, early_moments_are_in_time, empty_records_are_opened,
     finalized_views_lie_on_one_chain, histories_of_lives_are_gone_to, known_nullifies_are_recorded,

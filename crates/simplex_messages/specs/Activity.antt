@@ -174,7 +174,9 @@ module _ {S D P G C : Type 0} where
   nullify_finalize_report x = activity.NullifyFinalize x
 
   -- what stands behind a tag
-  unfoldable pub activity_behind : (D → D → Bool) → (List ℕ → Result (D × List ℕ) CodecError) → (List ℕ → Result (G × List ℕ) CodecError) → (List ℕ → Result (C × List ℕ) CodecError) → ℕ → List ℕ → Result (Activity S D P G C × List ℕ) CodecError
+  unfoldable pub activity_behind : (D → D → Bool) → (List ℕ → Result (D × List ℕ) CodecError)
+      → (List ℕ → Result (G × List ℕ) CodecError) → (List ℕ → Result (C × List ℕ) CodecError) → ℕ → List ℕ
+      → Result (Activity S D P G C × List ℕ) CodecError
   activity_behind same q r s =
       or_at 0 notarize_report (vote_at q r) (
       or_at 1 notarization_report (certificate_at q s) (
@@ -188,7 +190,9 @@ module _ {S D P G C : Type 0} where
       or_at 9 nullify_finalize_report (beside_at q r) (λ _. nothing_at))))))))))
 
   -- the report at the front: a tag, then what stands behind it
-  unfoldable pub activity_at : (D → D → Bool) → (List ℕ → Result (D × List ℕ) CodecError) → (List ℕ → Result (G × List ℕ) CodecError) → (List ℕ → Result (C × List ℕ) CodecError) → List ℕ → Result (Activity S D P G C × List ℕ) CodecError
+  unfoldable pub activity_at : (D → D → Bool) → (List ℕ → Result (D × List ℕ) CodecError)
+      → (List ℕ → Result (G × List ℕ) CodecError) → (List ℕ → Result (C × List ℕ) CodecError) → List ℕ
+      → Result (Activity S D P G C × List ℕ) CodecError
   activity_at same q r s = tagged_at (activity_behind same q r s)
 
   -- behind each tag one form is read, exactly where its bytes stand

@@ -12,11 +12,14 @@ module _ {K S D P G C : Type 0} where
   conflicting_spelling payload signature c = vote_spelling payload signature c.0 ++ vote_spelling payload signature c.1
 
   -- two votes whose numbers fit their types, and which contradict each other
-  unfoldable pub conflicting_fits : (D → D → Bool) → (D → Type 0) → (G → Type 0) → ProposalVote K S D P G C × ProposalVote K S D P G C → Type 0
+  unfoldable pub conflicting_fits : (D → D → Bool) → (D → Type 0) → (G → Type 0) → ProposalVote K S D P G C × ProposalVote K S D P G C
+      → Type 0
   conflicting_fits same Q F c = (vote_fits Q F c.0 × vote_fits Q F c.1) × (contradict same c.0 c.1 ≡ true)
 
   -- the evidence at the front: two votes, refused once both are read unless they contradict each other
-  unfoldable pub conflicting_at : (D → D → Bool) → (List ℕ → Result (D × List ℕ) CodecError) → (List ℕ → Result (G × List ℕ) CodecError) → List ℕ → Result ((ProposalVote K S D P G C × ProposalVote K S D P G C) × List ℕ) CodecError
+  unfoldable pub conflicting_at : (D → D → Bool) → (List ℕ → Result (D × List ℕ) CodecError)
+      → (List ℕ → Result (G × List ℕ) CodecError) → List ℕ
+      → Result ((ProposalVote K S D P G C × ProposalVote K S D P G C) × List ℕ) CodecError
   conflicting_at same payload signature = checked_at (λ c. contradict same c.0 c.1) (both_at (vote_at payload signature) (vote_at payload signature))
 
   -- evidence is read exactly where its bytes stand

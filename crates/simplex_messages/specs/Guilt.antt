@@ -103,7 +103,8 @@ module _ {K S D P G C : Type 0} where
       pub after : List (ProposalVote K S D P G C)
       pub whole : votes ≡ before ++ v ∷ after
       pub verifies : IsAttested states attests v
-      pub first : (u : ProposalVote K S D P G C) → Contains before u → IsAttested states attests u → u.attestation.signer ≡ v.attestation.signer → u.proposal ≡ v.proposal → ⊥
+      pub first : (u : ProposalVote K S D P G C) → Contains before u → IsAttested states attests u
+          → u.attestation.signer ≡ v.attestation.signer → u.proposal ≡ v.proposal → ⊥
 
 module _ {S D P G C : Type 0} (attests : ℕ → Statement D → G → Type 0) where
   -- a nullify and a finalize are the signer's, are of the round, and verify
@@ -124,7 +125,8 @@ module _ {S D P G C : Type 0} (attests : ℕ → Statement D → G → Type 0) w
     pub after : List (Nullify S D P G C)
     pub whole : nullifies ≡ before ++ v ∷ after
     pub verifies : NullifyIsAttested attests v
-    pub first : (u : Nullify S D P G C) → Contains before u → NullifyIsAttested attests u → u.attestation.signer ≡ v.attestation.signer → u.round ≡ v.round → ⊥
+    pub first : (u : Nullify S D P G C) → Contains before u → NullifyIsAttested attests u → u.attestation.signer ≡ v.attestation.signer
+        → u.round ≡ v.round → ⊥
 
 -- of two proposals of one round the lesser, by parent, then payload
 abbrev pub IsBelow : {D : Type 0} → (D → D → Ordering) → Proposal D → Proposal D → Type 0
@@ -144,7 +146,8 @@ module _ {K S D P G C : Type 0} (states : Proposal D → Statement D) (attests :
 module _ {S D P G C : Type 0} (attests : ℕ → Statement D → G → Type 0) (cmp : D → D → Ordering) where
   -- a is the signer's first nullify of its round that verifies, and b the first that verifies of its finalizes for
   -- the least proposal of that round
-  pub record IsLeastBeside (nullifies : List (Nullify S D P G C)) (finalizes : List (Finalize S D P G C)) (a : Nullify S D P G C) (b : Finalize S D P G C) : Type 0 where
+  pub record IsLeastBeside (nullifies : List (Nullify S D P G C)) (finalizes : List (Finalize S D P G C)) (a : Nullify S D P G C)
+      (b : Finalize S D P G C) : Type 0 where
     pub beside : StandsBeside a b
     pub first : IsFirstNullify attests nullifies a
     pub second : IsFirstRead finalize attests finalizes b

@@ -18,7 +18,8 @@ module _ {S D P G C : Type 0} where
   beside_fits Q F c = (nullify_fits F c.0 × vote_fits Q F c.1) × (stands_beside c.0 c.1 ≡ true)
 
   -- the evidence at the front: two votes, refused once both are read unless they are of one signer and one round
-  unfoldable pub beside_at : (List ℕ → Result (D × List ℕ) CodecError) → (List ℕ → Result (G × List ℕ) CodecError) → List ℕ → Result ((Nullify S D P G C × Finalize S D P G C) × List ℕ) CodecError
+  unfoldable pub beside_at : (List ℕ → Result (D × List ℕ) CodecError) → (List ℕ → Result (G × List ℕ) CodecError) → List ℕ
+      → Result ((Nullify S D P G C × Finalize S D P G C) × List ℕ) CodecError
   beside_at payload signature = checked_at (λ c. stands_beside c.0 c.1) (both_at (nullify_at signature) (vote_at payload signature))
 
   -- evidence is read exactly where its bytes stand

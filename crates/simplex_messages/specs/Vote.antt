@@ -43,11 +43,13 @@ module _ {S D P G C : Type 0} where
   as_finalize v = vote.Finalize v
 
   -- what stands behind a tag
-  unfoldable pub any_vote_behind : (List ℕ → Result (D × List ℕ) CodecError) → (List ℕ → Result (G × List ℕ) CodecError) → ℕ → List ℕ → Result (Vote S D P G C × List ℕ) CodecError
+  unfoldable pub any_vote_behind : (List ℕ → Result (D × List ℕ) CodecError) → (List ℕ → Result (G × List ℕ) CodecError) → ℕ
+      → List ℕ → Result (Vote S D P G C × List ℕ) CodecError
   any_vote_behind q r = or_at 0 as_notarize (vote_at q r) (or_at 1 as_nullify (nullify_at r) (or_at 2 as_finalize (vote_at q r) (λ _. nothing_at)))
 
   -- the vote at the front: a tag, then what stands behind it
-  unfoldable pub any_vote_at : (List ℕ → Result (D × List ℕ) CodecError) → (List ℕ → Result (G × List ℕ) CodecError) → List ℕ → Result (Vote S D P G C × List ℕ) CodecError
+  unfoldable pub any_vote_at : (List ℕ → Result (D × List ℕ) CodecError) → (List ℕ → Result (G × List ℕ) CodecError) → List ℕ
+      → Result (Vote S D P G C × List ℕ) CodecError
   any_vote_at q r = tagged_at (any_vote_behind q r)
 
   -- behind each tag one form is read, exactly where its bytes stand

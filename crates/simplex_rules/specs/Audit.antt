@@ -11,7 +11,8 @@ use Rattle.simplex_messages.specs.declared.activity.Activity.TheVariants as acti
 use Rattle.simplex_messages.specs.Guilt.{notarizes_of, nullifies_of, finalizes_of, IsGuilty, IsLeastEvidence, IsGuiltyBeside, IsLeastBeside}
 
 -- the bytes are these messages, each of which can be read, and then nothing, or at the place of the fault no whole message
-pub record IsRead {A : Type 0} (Fits : A → Type 0) (spelling : A → List ℕ) (reading : List ℕ → Result (A × List ℕ) CodecError) (bytes : List ℕ) (messages : List A) (fault : Option ℕ) : Type 0 where
+pub record IsRead {A : Type 0} (Fits : A → Type 0) (spelling : A → List ℕ) (reading : List ℕ → Result (A × List ℕ) CodecError)
+    (bytes : List ℕ) (messages : List A) (fault : Option ℕ) : Type 0 where
   pub fitting : All Fits messages
   pub rest : List ℕ
   pub whole : bytes ≡ flat_map spelling messages ++ rest
@@ -85,16 +86,22 @@ module _ {S D P G C : Type 0} where
       -- each piece is evidence, and of all that there is against its signer in its round the least
       pub sound : (a : Activity S D P G C) → Contains evidence a → IsLeast reports a
       -- who notarized two proposals of a round is accused of it
-      pub two_notarizes : (round : Round) (signer : ℕ) → IsGuilty notarize attests (notarizes_of lists reports) round signer → IsAccused evidence (record { round = round; signer = signer; offence = TwoNotarizes })
+      pub two_notarizes : (round : Round) (signer : ℕ) → IsGuilty notarize attests (notarizes_of lists reports) round signer
+          → IsAccused evidence (record { round = round; signer = signer; offence = TwoNotarizes })
       -- who finalized two proposals of a round is accused of it
-      pub two_finalizes : (round : Round) (signer : ℕ) → IsGuilty finalize attests (finalizes_of lists reports) round signer → IsAccused evidence (record { round = round; signer = signer; offence = TwoFinalizes })
+      pub two_finalizes : (round : Round) (signer : ℕ) → IsGuilty finalize attests (finalizes_of lists reports) round signer
+          → IsAccused evidence (record { round = round; signer = signer; offence = TwoFinalizes })
       -- who gave a round up and finalized a proposal of it is accused of it
-      pub nullify_beside : (round : Round) (signer : ℕ) → IsGuiltyBeside attests (nullifies_of lists reports) (finalizes_of lists reports) round signer → IsAccused evidence (record { round = round; signer = signer; offence = NullifyBeside })
+      pub nullify_beside : (round : Round) (signer : ℕ)
+          → IsGuiltyBeside attests (nullifies_of lists reports) (finalizes_of lists reports) round signer
+          → IsAccused evidence (record { round = round; signer = signer; offence = NullifyBeside })
       -- by epoch, view, signer and offence, each accusation once
       pub sorted : AllPairs (λ a b. AreInOrder (accused a) (accused b)) evidence
 
     -- the evidence against the guilty of the reports that the bytes hold, up to the first place where none stands
-    pub record IsAudit (Fits : Activity S D P G C → Type 0) (spelling : Activity S D P G C → List ℕ) (reading : List ℕ → Result (Activity S D P G C × List ℕ) CodecError) (bytes : List ℕ) (evidence : List (Activity S D P G C)) (fault : Option ℕ) : Type 0 where
+    pub record IsAudit (Fits : Activity S D P G C → Type 0) (spelling : Activity S D P G C → List ℕ)
+        (reading : List ℕ → Result (Activity S D P G C × List ℕ) CodecError) (bytes : List ℕ) (evidence : List (Activity S D P G C))
+        (fault : Option ℕ) : Type 0 where
       pub reports : List (Activity S D P G C)
       pub read : IsRead Fits spelling reading bytes reports fault
       pub verdict : IsVerdict reports evidence

@@ -1,5 +1,5 @@
 -- What a look at the proposals that wait passes.
-use Rattle.std.proofs.Common.{◌≡◌, ◌≤◌, ◌<◌, ◌+◌, ◌-◌, ◌^◌, ℕ, zero, suc, max, inl, inr, refl, subst, ⊎_elim, arith}
+use Rattle.std.proofs.Common.{◌≡◌, ◌≤◌, ◌<◌, ◌+◌, ◌-◌, ◌^◌, ℕ, zero, suc, Bool, true, false, max, inl, inr, refl, subst, ⊎_elim, arith}
 use Rattle.std.specs.Prelude.{◌∷◌, List, None}
 use Rattle.std.proofs.lemmas.Bool.{cases_lt}
 use Rattle.types_core.specs.declared.proposal.Proposal.{Proposal}
@@ -9,17 +9,18 @@ use Rattle.types_terms.specs.Spans.{term_end-above}
 use Rattle.types_terms.specs.declared.elector.Elector as elector
 use Rattle.types_terms.specs.Windows.{AdmitsOutbound}
 use Rattle.voter_history.specs.declared.timeout_reason.TimeoutReason.TheVariants as reason
+use Rattle.voter_history.specs.Past as past
 use Rattle.voter_rounds.specs.Rounds.{AreUntracked}
 use Rattle.voter_history.specs.History.{Setup, Point, current, latched, seen}
 use Rattle.voter_history.specs.Known.{Known, known}
 use Rattle.voter_history.specs.Leaders.{leader}
 use Rattle.voter_rules.specs.Ancestry.{Member, member}
-use Rattle.voter_rules.specs.Requests.{AsksNothing, IsOpen, IsPassed, Scanned, WaitsForParent, begun, passed, given_up}
+use Rattle.voter_rules.specs.Requests.{AsksNothing, IsOpen, IsPassed, Scanned, WaitsForParent, begun, passed, given_up, left_so}
 use Rattle.voter_laws.specs.Matching.{ScanLeavesNothing}
 use Rattle.simplex_state.specs.declared.state.State.{State}
 use Rattle.simplex_state.specs.State.{Keeps}
 use Rattle.simplex_state.specs.Resuming.{BehindLookFrom, PassesFrom, first_looked}
-use Rattle.simplex_state.specs.Verifying.{Passes}
+use Rattle.simplex_state.specs.Verifying.{GivesUp, Passes}
 use Rattle.simplex_state.proofs.Lowest.{outbound_below}
 
 -- a view is passed where no proposal waits in it
@@ -50,7 +51,8 @@ module _ {S D P G C : Type 0} (s : Setup S C) where
     pub looked_from : {view : ℕ} {end : List (Point S D P G C)} → Looked view end → current s end ≡ current s h
     looked_from begun = refl
     looked_from (passed looked is) = looked_from looked
-    looked_from (given_up looked bad) = looked_from looked
+    looked_from (given_up looked bad is_first) = looked_from looked
+    looked_from (left_so looked bad isnt) = looked_from looked
 
     -- it goes on over views that are passed
     pub looked_over : (end : List (Point S D P G C)) (view n : ℕ) → Looked view end → ((u : ℕ) → view ≤ u → u < view + n → IsPassed (member s) (known s end) u) → Looked (view + n) end
@@ -98,6 +100,16 @@ closed_asks m k view closed = record {
   no_notarization = λ p wanted. closed wanted.waits.opens;
 }
 
+module _ {S L D P G C : Type 0} (g : Ghosts S D P G C) (e : elector.Ghosts L S D P G C) (s : Setup S C) (state : State S L D P G C) (now : ℕ) (h : List (Point S D P G C)) where
+  -- where a view's proposal can never stand, it is given up exactly where that is the first reason
+  pub gives_up : (view : ℕ) (first : Bool) → first ≡ past.is_unlatched (seen s h view) → Keeps g e s state (latched now view reason.InvalidProposal ∷ h) → (first ≡ false → Keeps g e s state h)
+      → GivesUp g e s state now h view (past.is_unlatched (seen s h view))
+  gives_up view first is taken stays = subst (λ (b : Bool). GivesUp g e s state now h view b) is (by first taken stays)
+    where
+      by : (b : Bool) → Keeps g e s state (latched now view reason.InvalidProposal ∷ h) → (b ≡ false → Keeps g e s state h) → GivesUp g e s state now h view b
+      by true taken stays = taken
+      by false taken stays = stays refl
+
 module _ {S L D P G C : Type 0} (g : Ghosts S D P G C) (e : elector.Ghosts L S D P G C) (s : Setup S C) (state : State S L D P G C) (now : ℕ) (h : List (Point S D P G C)) (from : ℕ) where
   -- a look that passed all leaves nothing to ask
   pub passes_all : ScanLeavesNothing S D P G C → (end : List (Point S D P G C)) → IsWhole s now h (first_looked s h from) end → Keeps g e s state end → (last : ℕ) × BehindLookFrom s h now from last (PassesFrom g e s state from last)
@@ -126,19 +138,28 @@ module _ {S L D P G C : Type 0} (g : Ghosts S D P G C) (e : elector.Ghosts L S D
       all : (u : ℕ) → AdmitsOutbound s.length s.optimistic_views (current s end) u → u < last
       all u out = whole u (subst (λ (c : ℕ). AdmitsOutbound s.length s.optimistic_views c u) same out)
 
-  -- a look goes on over a view that is passed
+  -- a look goes one view further over one that is passed
+  passes_one : (end : List (Point S D P G C)) (view : ℕ) → Looked s now h (first_looked s h from) view end → Passes g e s state now end view
+      → (more : List (Point S D P G C)) × Looked s now h (first_looked s h from) (view + 1) more × Keeps g e s state more
+  passes_one end view to (inl (passes, k)) = (end, passed to passes, k)
+  passes_one end view to (inr (bad, up)) = by (past.is_unlatched (seen s end view)) refl up
+    where
+      by : (b : Bool) → past.is_unlatched (seen s end view) ≡ b → GivesUp g e s state now end view b → (more : List (Point S D P G C)) × Looked s now h (first_looked s h from) (view + 1) more × Keeps g e s state more
+      by true is k = (latched now view reason.InvalidProposal ∷ end, given_up to bad is, k)
+      by false isnt k = (end, left_so to bad isnt, k)
+
   pub looks_on : (end : List (Point S D P G C)) (next view after : ℕ) → current s h ≤ next → next ≤ view → after ≡ view + 1 → Looked s now h (first_looked s h from) view end → Passes g e s state now end view
       → (end : List (Point S D P G C)) × (current s h ≤ after) × Looked s now h (first_looked s h from) after end × Keeps g e s state end
-  looks_on end next view after at behind is to (inl (passes, k)) = (end, omega (arith, at, behind, is), rw is (passed to passes), k)
-  looks_on end next view after at behind is to (inr (bad, k)) = (latched now view reason.InvalidProposal ∷ end, omega (arith, at, behind, is), rw is (given_up to bad), k)
+  looks_on end next view after at behind is to passes =
+      let (more, looked, k) = passes_one end view to passes in
+      (more, omega (arith, at, behind, is), rw is looked, k)
 
   -- it passed all behind the last view with a number
   pub passes_last : ScanLeavesNothing S D P G C → (end : List (Point S D P G C)) (view : ℕ) → 0 < s.length → view + 1 ≡ 2 ^ 64 → Looked s now h (first_looked s h from) view end → Passes g e s state now end view
       → (last : ℕ) × BehindLookFrom s h now from last (PassesFrom g e s state from last)
-  passes_last law end view some last to (inl (passes, k)) = passes_all law end (whole_past s now h (first_looked s h from) end (view + 1) some (omega (arith, last)) (passed to passes)) k
-  passes_last law end view some last to (inr (bad, k)) =
-      let after : List (Point S D P G C) = latched now view reason.InvalidProposal ∷ end in
-      passes_all law after (whole_past s now h (first_looked s h from) after (view + 1) some (omega (arith, last)) (given_up to bad)) k
+  passes_last law end view some last to passes =
+      let (more, looked, k) = passes_one end view to passes in
+      passes_all law more (whole_past s now h (first_looked s h from) more (view + 1) some (omega (arith, last)) looked) k
 
   -- and where none behind is tracked
   pub passes_rest : ScanLeavesNothing S D P G C → (end : List (Point S D P G C)) (next : ℕ) → 0 < s.length → Looked s now h (first_looked s h from) next end → AreUntracked (leader s end) (seen s end) next (2 ^ 64) → Keeps g e s state end

@@ -1,5 +1,5 @@
 -- What a voter asks for, to judge the proposals of others.
-use Rattle.std.specs.Prelude.{◌≡◌, ◌⊎◌, ◌<◌, ◌∷◌, ℕ, List}
+use Rattle.std.specs.Prelude.{◌≡◌, ◌⊎◌, ◌<◌, ◌∷◌, ℕ, Bool, true, false, List}
 use Rattle.types_core.specs.declared.context.Context.{Context}
 use Rattle.types_core.specs.declared.proposal.Proposal.{Proposal}
 use Rattle.types_core.specs.declared.scheme.Scheme.{Ghosts}
@@ -7,7 +7,8 @@ use Rattle.types_terms.specs.declared.elector.Elector as elector
 use Rattle.types_terms.specs.Windows.{AdmitsOutbound}
 use Rattle.simplex_resolver.specs.declared.ask.Kind.{Kind}
 use Rattle.voter_history.specs.declared.timeout_reason.TimeoutReason.TheVariants as reason
-use Rattle.voter_history.specs.History.{Setup, Point, ancestry_asked, current, latched, verify_asked}
+use Rattle.voter_history.specs.Past as past
+use Rattle.voter_history.specs.History.{Setup, Point, ancestry_asked, current, latched, seen, verify_asked}
 use Rattle.voter_history.specs.Known.{Known, known}
 use Rattle.voter_rules.specs.Ancestry.{Member, member}
 use Rattle.voter_rules.specs.Building.{IsKeyOfLeader}
@@ -54,10 +55,15 @@ module _ {S L D P G C : Type 0} (g : Ghosts S D P G C) (e : elector.Ghosts L S D
     pub idle : (u : ℕ) → AsksNothing (member s) (known s h) u
     pub keeps : Keeps g e s state h
 
-  -- the view was passed, since nothing is to be asked for it, or since its proposal can never stand, for which it is given up
+  -- its proposal can never stand: where that is the first reason to give the view up it is given up so, else nothing changes
+  abbrev pub GivesUp : ℕ → List (Point S D P G C) → ℕ → Bool → Type 0
+  GivesUp now h view true = Keeps g e s state (latched now view reason.InvalidProposal ∷ h)
+  GivesUp now h view false = Keeps g e s state h
+
+  -- the view was passed, since nothing is to be asked for it, or since its proposal can never stand
   abbrev pub Passes : ℕ → List (Point S D P G C) → ℕ → Type 0
   Passes now h view = (IsPassed (member s) (known s h) view × Keeps g e s state h)
-      ⊎ (((p : Proposal D) × IsInvalid (member s) (known s h) view p) × Keeps g e s state (latched now view reason.InvalidProposal ∷ h))
+      ⊎ (((p : Proposal D) × IsInvalid (member s) (known s h) view p) × GivesUp now h view (past.is_unlatched (seen s h view)))
 
   -- what was wanted for the view's proposal is asked for
   abbrev pub Asks : List (Point S D P G C) → ℕ → Verify D P → Type 0

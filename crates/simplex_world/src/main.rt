@@ -11,13 +11,14 @@
 //! | `work LEAST MOST`, `doubt S` | how long the application thinks, and how many verdicts are bad |
 //! | `clock T` | how coarse the clocks of hosts are |
 //! | `term LENGTH STALL OPTIMISTIC`, `times LEADER CERTIFICATION RETRY`, `skip T`, `keep VIEWS` | the nodes |
-//! | `lie MEMBER WAY ..` | `silent`, `two-votes`, `two-proposals`, `two-faced`, `forged`, `withheld` |
+//! | `lie MEMBER WAY ..` | `silent`, `two-votes`, `two-proposals`, `two-faced`, `forged`, `withheld`, `asking`, `stale` |
 //! | `crash MEMBER VIEW CALLS DOWN` | in that view, behind so many calls of its disk, for so long |
 //! | `format text` or `json`, `lines all`, `some` or `none` | what is written |
 //!
-//! The word `--json` behind the program's name stands for `format json`. The status is 1 where two members' finalized proposals differ,
-//! a correct member is named or blocked by a correct one, or a record isn't opened again; 2 where a line is refused, 3 where memory
-//! ran out, 4 where reading or writing failed; else 0.
+//! The word `--json` behind the program's name stands for `format json`; `--help` and `--version` tell of the program, and no other
+//! word has a meaning. The status is 1 where two members' finalized proposals differ, a correct member is named or blocked by a
+//! correct one, or a record isn't opened again; 2 where a line or a word is refused, 3 where memory ran out, 4 where reading or
+//! writing failed; else 0.
 #![tactic(auto)]
 
 mod keeper;
@@ -26,6 +27,7 @@ mod turns;
 
 use crate::keeper::Keeper;
 use simplex_types::PlainScheme;
+use std::io::Write;
 use std::process::ExitCode;
 use std::{env, io};
 use types_terms::RoundRobinElector;
@@ -35,22 +37,51 @@ use world_playing::play;
 /// A member of these worlds.
 type Seated = Keeper<PlainScheme, RoundRobinElector, TornDisk>;
 
-/// Whether the words behind the program's name ask for JSON.
-fn asks_json(rt: &HostRuntime) -> io::Result<bool> {
-    let words: Vec<String> = env::args(rt)?.skip(1).collect(rt.alloc())?;
-    for word in &words {
-        if word.as_str() == "--json" {
-            return Ok(true);
+/// What `--help` tells, and on standard error whoever calls it by other words.
+const HELP: &str =
+    "usage: simplex_world [--json] < SCENARIOS\n  runs scenarios, and writes a line for each event that matters, with --json as JSON (docs/WORLD.md)\n  --help, --version\n";
+
+/// What `--version` tells: what the nodes of worlds read and write.
+const VERSION: &str = "simplex_world: version 1 of the formats\n";
+
+/// The words behind the program's name.
+fn words(rt: &HostRuntime) -> io::Result<Vec<String>> {
+    let words = env::args(rt)?.skip(1).collect(rt.alloc())?;
+    Ok(words)
+}
+
+/// Runs the scenarios of standard input, and gives the status to end with.
+fn run(rt: &HostRuntime, is_json: bool) -> u8 {
+    let mut output = io::writer(rt);
+    play::<PlainScheme, Seated, _, _>(rt.alloc(), is_json, rt.reader(), &mut output)
+}
+
+/// Writes a text on the program, and gives the status to end with.
+fn tell(rt: &HostRuntime, text: &str) -> u8 {
+    match rt.stdout().write_all(text.as_bytes()) {
+        Ok(()) => 0,
+        Err(_) => 4,
+    }
+}
+
+/// Does what the words ask for, and gives the status to end with.
+fn serve(rt: &HostRuntime, words: &[String]) -> u8 {
+    match words {
+        [] => run(rt, false),
+        [word] if word.as_str() == "--json" => run(rt, true),
+        [word] if word.as_str() == "--help" => tell(rt, HELP),
+        [word] if word.as_str() == "--version" => tell(rt, VERSION),
+        _ => {
+            let _ = rt.stderr().write_all(HELP.as_bytes());
+            2
         }
     }
-    Ok(false)
 }
 
 fn main(rt: HostRuntime) -> ExitCode {
-    let is_json = match asks_json(&rt) {
-        Ok(is_json) => is_json,
-        Err(_) => false,
+    let status = match words(&rt) {
+        Ok(words) => serve(&rt, &words),
+        Err(_) => 4,
     };
-    let mut output = io::writer(&rt);
-    ExitCode::from(play::<PlainScheme, Seated, _, _>(rt.alloc(), is_json, rt.reader(), &mut output))
+    ExitCode::from(status)
 }

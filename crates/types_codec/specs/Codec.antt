@@ -30,7 +30,8 @@ GivesBy view reading old new (Err TooLong) = (reading old ≡ Err TooLong) × (n
 GivesBy view reading old new (Err Memory) = new ≡ old
 
 -- What is read is spelled so, and what is spelled so is read, whatever follows.
-pub record IsCodec {A : Type 0} (Fits : A → Type 0) (spelling : A → List ℕ) (reading : List ℕ → Result (A × List ℕ) CodecError) : Type 0 where
+pub record IsCodec {A : Type 0} (Fits : A → Type 0) (spelling : A → List ℕ)
+    (reading : List ℕ → Result (A × List ℕ) CodecError) : Type 0 where
   pub takes : (bytes : List ℕ) (x : A) (rest : List ℕ) → reading bytes ≡ Ok (x, rest) → (bytes ≡ spelling x ++ rest) × Fits x
   pub again : (x : A) (rest : List ℕ) → Fits x → reading (spelling x ++ rest) ≡ Ok (x, rest)
 
@@ -47,7 +48,8 @@ abbrev pub bytes_at : ℕ → List ℕ → Result (List ℕ × List ℕ) CodecEr
 bytes_at n bytes = if nat_lt (length bytes) n then Err End else Ok (take n bytes, drop n bytes)
 
 -- one after the other
-abbrev pub both_at : {A B : Type 0} → (List ℕ → Result (A × List ℕ) CodecError) → (List ℕ → Result (B × List ℕ) CodecError) → List ℕ → Result ((A × B) × List ℕ) CodecError
+abbrev pub both_at : {A B : Type 0} → (List ℕ → Result (A × List ℕ) CodecError) → (List ℕ → Result (B × List ℕ) CodecError)
+    → List ℕ → Result ((A × B) × List ℕ) CodecError
 both_at first second bytes = do
   a ← first bytes
   b ← second a.1
@@ -65,7 +67,8 @@ MatchesReading view (Ok x) read = read ≡ Ok (view x)
 MatchesReading view (Err e) read = read ≡ Err e
 
 -- only what passes a test
-abbrev pub checked_at : {A : Type 0} → (A → Bool) → (List ℕ → Result (A × List ℕ) CodecError) → List ℕ → Result (A × List ℕ) CodecError
+abbrev pub checked_at : {A : Type 0} → (A → Bool) → (List ℕ → Result (A × List ℕ) CodecError) → List ℕ
+    → Result (A × List ℕ) CodecError
 checked_at test reading bytes = do
   a ← reading bytes
   if test a.0 then Ok a else Err Invalid
@@ -80,7 +83,8 @@ tagged_at behind [] = Err End
 tagged_at behind (tag ∷ bytes) = behind tag bytes
 
 -- behind this tag one form, and behind others what they say
-abbrev pub or_at : {A B : Type 0} → ℕ → (A → B) → (List ℕ → Result (A × List ℕ) CodecError) → (ℕ → List ℕ → Result (B × List ℕ) CodecError) → ℕ → List ℕ → Result (B × List ℕ) CodecError
+abbrev pub or_at : {A B : Type 0} → ℕ → (A → B) → (List ℕ → Result (A × List ℕ) CodecError)
+    → (ℕ → List ℕ → Result (B × List ℕ) CodecError) → ℕ → List ℕ → Result (B × List ℕ) CodecError
 or_at own made reading others tag bytes = if tag == own then as_at made reading bytes else others tag bytes
 
 -- ---- what readings made of readings give

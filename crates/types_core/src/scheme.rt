@@ -187,7 +187,8 @@ pub trait Scheme<D: Digest> {
         ensures certifies { IfOk result
             (λ c. (x : Statement D) → All (λ a. attests self.now a.signer x a.signature) attestations.now → certifies self.now x c) }
         ensures only_given { IfOk result (λ c. (a : Attestation Self.Signature) → Contains (lists c) a → Contains attestations.now a) }
-        ensures all_given { IfOk result (λ c. enumerates → (a : Attestation Self.Signature) → Contains attestations.now a → Contains (lists c) a) }
+        ensures all_given { IfOk result
+            (λ c. enumerates → (a : Attestation Self.Signature) → Contains attestations.now a → Contains (lists c) a) }
         ensures readable { IfOk result (λ c. Self.Certificate.within (size self.now) c) }
         ensures within { IfOk result (λ c. Self.Certificate.within 65535 c) }
         ensures too_few { length attestations.now < quorum (size self.now)

@@ -27,7 +27,8 @@ StartsLaterTerm views current view = (view ≡ later_term_start views current) �
 -- a view is listened to
 abbrev pub Admits : ℕ → ℕ → ℕ → ℕ → Type 0
 Admits views optimistic current view =
-    (view ≤ current) ⊎ (InAdmissionWindow views optimistic current view ⊎ (StartsNextTerm views optimistic current view ⊎ StartsLaterTerm views current view))
+    (view ≤ current)
+    ⊎ (InAdmissionWindow views optimistic current view ⊎ (StartsNextTerm views optimistic current view ⊎ StartsLaterTerm views current view))
 
 -- a view is the first of the next term, and the current term's end is at most the optimistic views ahead
 abbrev pub IsHandoffView : ℕ → ℕ → ℕ → ℕ → Type 0

@@ -76,7 +76,7 @@ pub data Point (S D P G C : Type 0) : Type 0 where
   recalled_verdict : ℕ → Bool → Point S D P G C
   -- the certificate of this kind of a view was handed out, or the record says so
   sent : Kind → ℕ → Point S D P G C
-  -- the next timeout was looked at; the views that need not be kept were dropped
+  -- the next timeout was polled; the views that need not be kept were dropped
   polled : ℕ → Point S D P G C
   pruned : Point S D P G C
 
@@ -129,7 +129,8 @@ module _ {S D P G C : Type 0} where
   abbrev pub enter : Setup S C → ℕ → ℕ → ℕ → (ℕ → List (Item S D P G C)) → ℕ → List (Item S D P G C)
   enter s current_view now view t =
       if nat_lt current_view view
-      then put view (past.armed (past.deadline now s.leader_timeout) (past.deadline now s.certification_timeout) (later now s.stall_timeout)) (put view (past.entered now) t)
+      then put view (past.armed (past.deadline now s.leader_timeout) (past.deadline now s.certification_timeout) (later now s.stall_timeout))
+      (put view (past.entered now) t)
       else t
 
   -- the payload of the held proposal, while no certificate of the view is known
@@ -194,5 +195,6 @@ module _ {S D P G C : Type 0} where
   abbrev pub nullification : Setup S C → List (Point S D P G C) → ℕ → Option (Nullification S D P G C)
   nullification s [] view = None
   nullification s (nullified now c ∷ h) view = if c.round.view == view then option_or (nullification s h view) (Some c) else nullification s h view
-  nullification s (pruned ∷ h) view = if nat_lt view (min_active s h) && nat_le (term_end s.length view) (last_finalized h) then None else nullification s h view
+  nullification s (pruned ∷ h) view =
+      if nat_lt view (min_active s h) && nat_le (term_end s.length view) (last_finalized h) then None else nullification s h view
   nullification s (x ∷ h) view = nullification s h view

@@ -15,7 +15,8 @@ any_from test low (suc n) = test (low + n) || any_from test low n
 -- one view after the other: known before, named just now, or the leader of the view before
 abbrev pub extend : (ℕ → Option ℕ) → (ℕ → Bool) → (ℕ → Option ℕ) → ℕ → Option ℕ
 extend here from_before known zero = known zero
-extend here from_before known (suc w) = option_or (known (suc w)) (option_or (here (suc w)) (if from_before (suc w) then extend here from_before known w else None))
+extend here from_before known (suc w) =
+    option_or (known (suc w)) (option_or (here (suc w)) (if from_before (suc w) then extend here from_before known w else None))
 
 module _ {S C : Type 0} where
   -- this member, where it may lead a view before the view before it is decided: it starts a term, and a schedule names this member

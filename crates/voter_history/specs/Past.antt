@@ -204,6 +204,10 @@ module _ {S D P G C : Type 0} where
   retry (polled moment ∷ h) = if has_nullified h then option_or (retry h) (Some moment) else retry h
   retry (x ∷ h) = retry h
 
+  -- where a nullify was voted, it is known when that is due again
+  abbrev pub RetryIsKnown : List (Item S D P G C) → Type 0
+  RetryIsKnown h = has_nullified h ≡ true → IsSome (retry h)
+
   -- when and why the view is given up first: for the latched reason where it counts, else at the leader's deadline while no
   -- proposal is held, else at the verdict's while it is not true
   abbrev pub first_timeout : List (Item S D P G C) → Bool → Option (ℕ × TimeoutReason)

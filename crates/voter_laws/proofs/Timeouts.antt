@@ -16,7 +16,7 @@ use Rattle.voter_history.specs.Pasts.{put}
 use Rattle.voter_history.specs.History.{Setup, Point, started, nullified, finalized, judged, polled, pruned, enter, current, seen}
 use Rattle.voter_rules.specs.GivingUp.{earlier, has_budget, oldest_entered, term_deadline, timeout_of}
 use Rattle.voter_laws.specs.Steps.{put_holds}
-use Rattle.voter_laws.specs.Timeouts.{CurrentHasTimeout, TimeoutIsEarliest, PolledOnceIsPolled}
+use Rattle.voter_laws.specs.Timeouts.{CurrentHasTimeout, CurrentIsSeen, PollKeepsTimeout, TimeoutIsEarliest, PolledOnceIsPolled}
 use Rattle.voter_laws.proofs.Growing.{grows, grown}
 use Rattle.voter_laws.proofs.Pruning.{first_same, then_same, behind}
 
@@ -124,6 +124,9 @@ polled_here s h now some =
     let here : (current s h == current s h) ≡ true = grind (arith, common_steps) in
     rw (there, here) refl
 
+pub current_is_seen : {S D P G C : Type 0} → CurrentIsSeen S D P G C
+current_is_seen s h some none = absurd (cc (subst IsArmed none (armed s h some) refl))
+
 pub current_has_timeout : {S D P G C : Type 0} → CurrentHasTimeout S D P G C
 current_has_timeout s h now some final open_ untrue =
     subst (λ x. IsSome (timeout_of now (has_budget s (polled now ∷ h)) (term_deadline s (polled now ∷ h)) x)) (sym (polled_here s h now some))
@@ -198,6 +201,29 @@ timeout_twice moment counts stall m n x = by (past.has_nullified x) refl
     by : (b : Bool) → past.has_nullified x ≡ b → timeout_of moment counts stall (past.polled n ∷ past.polled m ∷ x) ≡ timeout_of moment counts stall (past.polled m ∷ x)
     by true given = rw (given, retry_once (past.retry x) m n) refl
     by false kept = rw kept refl
+
+retry_kept : (o : Option ℕ) (n : ℕ) → IsSome o → option_or o (Some n) ≡ o
+retry_kept None n some = absurd (cc some)
+retry_kept (Some x) n some = refl
+
+-- a look changes nothing where the retry is known
+timeout_kept : {S D P G C : Type 0} (moment : ℕ) (counts : Bool) (stall : Option ℕ) (n : ℕ) (x : List (Item S D P G C)) → past.RetryIsKnown x → timeout_of moment counts stall (past.polled n ∷ x) ≡ timeout_of moment counts stall x
+timeout_kept moment counts stall n x known = by (past.has_nullified x) refl
+  where
+    by : (b : Bool) → past.has_nullified x ≡ b → timeout_of moment counts stall (past.polled n ∷ x) ≡ timeout_of moment counts stall x
+    by true given = rw (given, retry_kept (past.retry x) n (known given)) refl
+    by false kept = rw kept refl
+
+pub poll_keeps_timeout : {S D P G C : Type 0} → PollKeepsTimeout S D P G C
+poll_keeps_timeout s h now moment known = ⊎_elim
+    (λ none.
+    let start : nat_lt 0 (current s h) ≡ false = grind (arith, nat_tests, none) in
+    rw start refl)
+    (λ some.
+    subst (λ x. timeout_of moment (has_budget s h) (term_deadline s (polled now ∷ h)) x ≡ timeout_of moment (has_budget s h) (term_deadline s h) (seen s h (current s h))) (sym (polled_here s h now some))
+    (subst (λ (d : Option ℕ). timeout_of moment (has_budget s h) d (past.polled (past.deadline now s.timeout_retry) ∷ seen s h (current s h)) ≡ timeout_of moment (has_budget s h) (term_deadline s h) (seen s h (current s h))) (sym (polled_deadline s h now))
+    (timeout_kept moment (has_budget s h) (term_deadline s h) (past.deadline now s.timeout_retry) (seen s h (current s h)) known)))
+    (nothing_or_more (current s h))
 
 pub polled_once_is_polled : {S D P G C : Type 0} → PolledOnceIsPolled S D P G C
 polled_once_is_polled s h now after moment = ⊎_elim

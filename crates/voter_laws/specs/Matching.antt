@@ -204,10 +204,16 @@ module _ (S D P G C : Type 0) where
   ScanLeavesNothing = (s : Setup S C) (now first : ℕ) (h : List (Point S D P G C)) (view : ℕ) (end : List (Point S D P G C)) → Scanned s now first h view end
       → (u : ℕ) → first ≤ u → u < view → AsksNothing (member s) (known s end) u
 
-  -- those that can never stand were given up for that
+  -- those that can never stand were given up for that, unless it would not have been the first reason
   abbrev pub ScanGivesUp : Type 0
   ScanGivesUp = (s : Setup S C) (now first : ℕ) (h : List (Point S D P G C)) (view : ℕ) (end : List (Point S D P G C)) → Scanned s now first h view end
-      → (u : ℕ) (p : Proposal D) → first ≤ u → u < view → IsInvalid (member s) (known s end) u p → Contains end (latched now u reason.InvalidProposal)
+      → (u : ℕ) (p : Proposal D) → first ≤ u → u < view → IsInvalid (member s) (known s end) u p
+      → Contains end (latched now u reason.InvalidProposal) ⊎ (past.is_unlatched (seen s h u) ≡ false)
+
+  -- so behind it no reason to give one of these up would be the first
+  abbrev pub ScanLeavesNoReason : Type 0
+  ScanLeavesNoReason = (s : Setup S C) (now first : ℕ) (h : List (Point S D P G C)) (view : ℕ) (end : List (Point S D P G C)) → Scanned s now first h view end
+      → (u : ℕ) (p : Proposal D) → first ≤ u → u < view → IsInvalid (member s) (known s end) u p → past.is_unlatched (seen s end u) ≡ false
 
   -- and where it passed all that may be spoken of, nothing is to be asked for any
   abbrev pub WholeScanLeavesNothing : Type 0

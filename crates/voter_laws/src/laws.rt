@@ -1,9 +1,9 @@
 //! What follows from the definitions of what a voter knows, and of what is due by it.
 
-ghost use Rattle.voter_laws.specs.Matching.{DueMayBeNotarized, DueMayBeFinalized, DueMayBeNullified, DueNotarizeIsOnGround, DueVerdictIsOnGround, LatchChangesNothing, ScanChangesNothing, ScanLeavesNothing, LeadersAreClosed, EachHistoryMatches, WhatAgreesIsDueAlike, PruneChangesNothing, PruneKeepsTimeouts, WindowsAgree, PollChangesNothing, SendChangesNothing, RepetitionChangesNothing, ScanGivesUp, WholeScanLeavesNothing};
+ghost use Rattle.voter_laws.specs.Matching.{DueMayBeNotarized, DueMayBeFinalized, DueMayBeNullified, DueNotarizeIsOnGround, DueVerdictIsOnGround, LatchChangesNothing, ScanChangesNothing, ScanLeavesNothing, LeadersAreClosed, EachHistoryMatches, WhatAgreesIsDueAlike, PruneChangesNothing, PruneKeepsTimeouts, WindowsAgree, PollChangesNothing, SendChangesNothing, RepetitionChangesNothing, ScanGivesUp, ScanLeavesNoReason, WholeScanLeavesNothing};
 ghost use Rattle.voter_laws.specs.Alone.{DueNotarizeIsOnGroundOrNext, DueVerdictOfOneIsOnGround, GroundStays};
 ghost use Rattle.voter_laws.specs.StaysKnown.{PruneKeepsUses, ViewsNeverFall, WhatIsKnownStays};
-ghost use Rattle.voter_laws.specs.Timeouts.{CurrentHasTimeout, PolledOnceIsPolled, TimeoutIsEarliest};
+ghost use Rattle.voter_laws.specs.Timeouts.{CurrentHasTimeout, CurrentIsSeen, PolledOnceIsPolled, PollKeepsTimeout, TimeoutIsEarliest};
 ghost use Rattle.voter_laws.specs.Recording.{EachRecordIsKnown};
 ghost use Rattle.voter_laws.specs.Placing.{DueNotarizeIsBound, HeldLiesInItsView};
 
@@ -37,13 +37,14 @@ pub fn a_latch_changes_nothing_due<S: Scheme<D>, D: Digest>()
     ensures leaders { LeadersAreClosed S D S.PublicKey S.Signature S.Certificate }
 {}
 
-/// A look at the proposals that wait changes nothing of what is known, though it may give up some: those that
-/// can never stand, each for that. For those that it passed nothing is to be asked, neither a verification
-/// nor a certificate; and where it passed all that may be spoken of, for none at all.
+/// A look at the proposals that wait changes nothing of what is known, though it may give up some: those that can never stand, each
+/// for that, where it is the first reason; behind the look no other would be. For those that it passed nothing is to be asked,
+/// neither a verification nor a certificate; and where it passed all that may be spoken of, for none at all.
 pub fn a_look_leaves_nothing_to_ask<S: Scheme<D>, D: Digest>()
     ensures unchanged { ScanChangesNothing S D S.PublicKey S.Signature S.Certificate }
     ensures passed { ScanLeavesNothing S D S.PublicKey S.Signature S.Certificate }
     ensures given_up { ScanGivesUp S D S.PublicKey S.Signature S.Certificate }
+    ensures no_reason { ScanLeavesNoReason S D S.PublicKey S.Signature S.Certificate }
     ensures whole { WholeScanLeavesNothing S D S.PublicKey S.Signature S.Certificate }
 {}
 
@@ -84,12 +85,15 @@ pub fn what_is_found_good_is_bound<S: Scheme<D>, D: Digest>()
     ensures { DueNotarizeIsBound S D S.PublicKey S.Signature S.Certificate }
 {}
 
-/// Behind a look at its timeout the current view has one, while it is not finalized, no finalize of it was voted and its verdict
-/// isn't true. What the timeout names is the earliest moment: from now on a nullify is due just from there on. And a second look
-/// changes nothing of it.
+/// Behind the start something happened to the current view. Behind a look at its timeout it has one, while it is not finalized, no
+/// finalize of it was voted and its verdict isn't true. What the timeout names is the earliest moment: from now on a nullify is due
+/// just from there on. A look changes nothing of it where it is known when a nullify that was voted is due again; so a second one
+/// never does.
 pub fn the_timeout_is_the_earliest<S: Scheme<D>, D: Digest>()
+    ensures seen { CurrentIsSeen S D S.PublicKey S.Signature S.Certificate }
     ensures there { CurrentHasTimeout S D S.PublicKey S.Signature S.Certificate }
     ensures earliest { TimeoutIsEarliest S D S.PublicKey S.Signature S.Certificate }
+    ensures kept { PollKeepsTimeout S D S.PublicKey S.Signature S.Certificate }
     ensures once { PolledOnceIsPolled S D S.PublicKey S.Signature S.Certificate }
 {}
 

@@ -98,7 +98,8 @@ module _ {D : Type 0} (m : Member) (k : Known D) where
   -- the one it was bound to, if it was
   pub data Optimistic : ℕ → D → Type 0 where
     at_start : {payload : D} → k.genesis ≡ Some payload → Optimistic 0 payload
-    by_certificate : {view : ℕ} {payload : D} → view ≢ 0 → has_certificate view ≡ true → ¬ HasFailed view → certificate_payload view ≡ Some payload
+    by_certificate : {view : ℕ} {payload : D} → view ≢ 0 → has_certificate view ≡ true → ¬ HasFailed view
+        → certificate_payload view ≡ Some payload
         → Optimistic view payload
     by_own_vote : {view : ℕ} {p : Proposal D} {payload : D} → view ≢ 0 → IsVotedFor view p → Optimistic p.parent payload
         → ForSome (k.binding view) (λ b. b.1 ≡ payload) → Optimistic view p.payload

@@ -7,7 +7,8 @@ use Rattle.voter_history.specs.declared.handoff_abandoned_reason.HandoffAbandone
 use Rattle.voter_history.specs.declared.handoff_abandoned_reason.HandoffAbandonedReason.TheVariants as abandoned
 use Rattle.voter_history.specs.declared.timeout_reason.TimeoutReason.TheVariants as reason
 use Rattle.voter_history.specs.Held.{BuildIsOpen, IsVerifyAsked}
-use Rattle.voter_history.specs.History.{Setup, Point, latched}
+use Rattle.voter_history.specs.Past as past
+use Rattle.voter_history.specs.History.{Setup, Point, latched, seen}
 use Rattle.voter_history.specs.Known.{Known, known}
 use Rattle.voter_rules.specs.Ancestry.{Member, member, held_at, explicit, InWindow, IsFirstUncovered, IsInvalidParent, IsSpan, IsParent, LacksPayload, IsPreferred, Leads, IsRequired}
 
@@ -157,9 +158,11 @@ module _ {D : Type 0} (m : Member) (k : Known D) where
 
 module _ {S D P G C : Type 0} (s : Setup S C) (now : ℕ) where
   -- the views from the current one up to this one were looked at, which led so far: those with a proposal that can never stand are
-  -- given up, and for the others nothing is to be asked
+  -- given up, unless that would not be the first reason, and for the others nothing is to be asked
   pub data Scanned (first : ℕ) (h : List (Point S D P G C)) : ℕ → List (Point S D P G C) → Type 0 where
     begun : Scanned first h first h
     passed : {view : ℕ} {end : List (Point S D P G C)} → Scanned first h view end → IsPassed (member s) (known s end) view → Scanned first h (view + 1) end
     given_up : {view : ℕ} {end : List (Point S D P G C)} → Scanned first h view end → (p : Proposal D) × IsInvalid (member s) (known s end) view p
-        → Scanned first h (view + 1) (latched now view reason.InvalidProposal ∷ end)
+        → past.is_unlatched (seen s end view) ≡ true → Scanned first h (view + 1) (latched now view reason.InvalidProposal ∷ end)
+    left_so : {view : ℕ} {end : List (Point S D P G C)} → Scanned first h view end → (p : Proposal D) × IsInvalid (member s) (known s end) view p
+        → past.is_unlatched (seen s end view) ≡ false → Scanned first h (view + 1) end

@@ -8,8 +8,9 @@ use Rattle.voter_history.specs.Known.{Known}
 use Rattle.voter_rules.specs.Ancestry.{Member, held_at, explicit, InWindow, Optimistic, IsSteady, IsRequired}
 
 module _ {D : Type 0} (m : Member) (k : Known D) where
-  -- a notarize is due: the view is kept, lies behind the floor of the record, has room and may be spoken of; neither it nor a nullify was voted; the held proposal is
-  -- verified; inside the issuance window the view before has an optimistic payload; what the proposal is bound to hasn't fallen
+  -- a notarize is due: the view is kept, lies behind the floor of the record, has room and may be spoken of; neither it nor a
+  -- nullify was voted; the held proposal is verified; inside the issuance window the view before has an optimistic payload; what
+  -- the proposal is bound to hasn't fallen
   pub record NotarizeIsDue (view : ℕ) : Type 0 where
     pub kept : Retains k.last_finalized m.retention view
     pub behind : k.floor < view
@@ -34,4 +35,5 @@ module _ {D : Type 0} (m : Member) (k : Known D) where
     pub notarized : IsSome (k.notarized view)
     pub certified : k.verdict view ≡ Some true
     pub healed : (u : ℕ) → term_start m.length view ≤ u → u < view → k.last_finalized < u → k.has_nullified u ≡ false
-    pub supported : (p : Proposal D) (required : ℕ) → held_at m k view ≡ Some p → IsRequired m k view p.parent required → IsSome (explicit m k required)
+    pub supported : (p : Proposal D) (required : ℕ) → held_at m k view ≡ Some p → IsRequired m k view p.parent required
+        → IsSome (explicit m k required)

@@ -2,6 +2,7 @@
 
 use crate::lying::{Saying, Sayings};
 use crate::parcel::{Handed, Lie, Parcel};
+use crate::pestering::Pestering;
 use simplex_member::Channel;
 use simplex_messages::{Finalize, Notarize, Nullify, Vote};
 use std::alloc::{AllocError, Global};
@@ -35,6 +36,7 @@ pub struct Liar<S: Committee> {
     chance: Chance,
     pairs: Vec<Pair>,
     said: Sayings,
+    besides: Pestering,
     /// How many packets were no honest ones, or were held back.
     pub lies: u64,
 }
@@ -51,6 +53,7 @@ impl<S: Committee> Liar<S> {
             chance: Chance::seeded(seed),
             pairs: Vec::new(alloc),
             said: Sayings::new(alloc),
+            besides: Pestering::new(alloc, index, members, ways, seed),
             lies: 0,
         }
     }
@@ -75,8 +78,30 @@ impl<S: Committee> Liar<S> {
         Ok(())
     }
 
-    /// What it sends in place of a packet, and the lie that is told of it.
+    /// What it sends in place of a packet, and besides, and the lie that is told of it.
     pub fn send(
+        &mut self,
+        payloads: &mut Payloads,
+        packet: &Handed<'_>,
+        out: &mut Vec<Parcel>,
+    ) -> Result<Option<Lie>, AllocError> {
+        self.pester(packet, out)?;
+        self.send_lying(payloads, packet, out)
+    }
+
+    /// What it sends besides.
+    fn pester(&mut self, packet: &Handed<'_>, out: &mut Vec<Parcel>) -> Result<(), AllocError> {
+        if let Some(vote) = self.vote_of(packet)? {
+            self.besides.note_view(vote.view().get());
+        }
+        self.besides.note_packet(packet.channel, packet.bytes)?;
+        let sent = self.besides.send(out)?;
+        self.lies = self.lies.saturating_add(sent);
+        Ok(())
+    }
+
+    /// What it sends in place of a packet, and the lie that is told of it.
+    fn send_lying(
         &mut self,
         payloads: &mut Payloads,
         packet: &Handed<'_>,
@@ -303,13 +328,15 @@ impl<S: Committee> Liar<S> {
         Ok(Some(Other { bytes, lie }))
     }
 
-    /// What a two-faced liar sends on hearing a packet of a correct member: the same vote of its own, to the side that it came from.
+    /// Notes a packet of a correct member. What a two-faced liar sends on hearing it: the same vote of its own, to the side that it
+    /// came from.
     pub fn hear(
         &mut self,
         sender: Participant,
         packet: &Handed<'_>,
         out: &mut Vec<Parcel>,
     ) -> Result<(), AllocError> {
+        self.besides.note_packet(packet.channel, packet.bytes)?;
         if !self.ways.two_faced {
             return Ok(());
         }

@@ -6,6 +6,7 @@ mod liar;
 mod lying;
 mod member;
 mod parcel;
+mod pestering;
 mod seat;
 mod setup;
 

@@ -27,8 +27,12 @@ pub enum Refusal {
     Zero,
     /// The number is above the most, which is 10^9.
     TooLarge,
+    /// More views of a term are optimistic than may be.
+    Optimistic,
     /// No node can be set up so.
     Times,
+    /// The line's bytes aren't UTF-8.
+    NoText,
     /// Memory ran out.
     Memory,
 }
@@ -48,7 +52,9 @@ impl Refusal {
             Refusal::Share => "a share is at most 1000 of a thousand",
             Refusal::Zero => "the number has to be above 0",
             Refusal::TooLarge => "the number is above 1000000000",
+            Refusal::Optimistic => "at most 1000 views of a term are optimistic",
             Refusal::Times => "no node can be set up with these times",
+            Refusal::NoText => "the line is not UTF-8",
             Refusal::Memory => "memory ran out",
         }
     }

@@ -25,6 +25,10 @@ pub struct Ways {
     pub withheld: bool,
     /// It votes on each side, of even and of odd index, for what that side votes for, and sends nothing else but proposals.
     pub two_faced: bool,
+    /// It asks others for views of all kinds.
+    pub asking: bool,
+    /// It sends certificates of views long past.
+    pub stale: bool,
 }
 
 impl Ways {
@@ -36,12 +40,15 @@ impl Ways {
         forged: false,
         withheld: false,
         two_faced: false,
+        asking: false,
+        stale: false,
     };
 
     /// Whether it is a lie at all.
     pub fn lies(&self) -> bool {
         let is_two = self.two_votes || self.two_proposals || self.two_faced;
-        is_two || self.silent || self.forged || self.withheld
+        let is_besides = self.asking || self.stale;
+        is_two || is_besides || self.silent || self.forged || self.withheld
     }
 
     /// Adds the way of this word.
@@ -53,6 +60,16 @@ impl Ways {
             "forged" => self.forged = true,
             "withheld" => self.withheld = true,
             "two-faced" => self.two_faced = true,
+            _ => return self.add_besides(word),
+        }
+        Ok(())
+    }
+
+    /// Adds the way of this word, of those that are sent besides.
+    fn add_besides(&mut self, word: &str) -> Result<(), Refusal> {
+        match word {
+            "asking" => self.asking = true,
+            "stale" => self.stale = true,
             _ => return Err(Refusal::UnknownWord),
         }
         Ok(())
@@ -261,7 +278,7 @@ impl Scenario {
             "term" => {
                 self.times.length = above_zero(words)?;
                 self.times.stall = Some(above_zero(words)?);
-                self.times.optimistic = number_of(words)?;
+                self.times.optimistic = optimistic_of(words)?;
             }
             "times" => {
                 self.times.leader = above_zero(words)?;
@@ -357,8 +374,11 @@ impl Scenario {
     }
 }
 
+/// How many views of a term may be optimistic.
+const MOST_OPTIMISTIC: u64 = 1_000;
+
 /// How many ways of lying there are.
-const MOST_WAYS: u8 = 6;
+const MOST_WAYS: u8 = 8;
 
 /// What nodes are set up with where no line says otherwise.
 const TIMES: Times = Times {
@@ -388,6 +408,15 @@ fn above_zero(words: &mut Words<'_>) -> Result<u64, Refusal> {
     let number = number_of(words)?;
     if number == 0 {
         return Err(Refusal::Zero);
+    }
+    Ok(number)
+}
+
+/// The next word as a number of optimistic views, of which a node goes over each in a step.
+fn optimistic_of(words: &mut Words<'_>) -> Result<u64, Refusal> {
+    let number = number_of(words)?;
+    if number > MOST_OPTIMISTIC {
+        return Err(Refusal::Optimistic);
     }
     Ok(number)
 }

@@ -64,7 +64,9 @@ impl Chronicle {
         self.tell_way(member, ways.two_proposals, "two-proposals")?;
         self.tell_way(member, ways.forged, "forged")?;
         self.tell_way(member, ways.withheld, "withheld")?;
-        self.tell_way(member, ways.two_faced, "two-faced")
+        self.tell_way(member, ways.two_faced, "two-faced")?;
+        self.tell_way(member, ways.asking, "asking")?;
+        self.tell_way(member, ways.stale, "stale")
     }
 
     /// A member lies in this way, if it does.

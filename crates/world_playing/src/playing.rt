@@ -2,7 +2,7 @@
 
 use crate::world::World;
 use std::alloc::Global;
-use std::io::{BufRead, BufReader, Read, Write};
+use std::io::{self, BufRead, BufReader, ErrorKind, Read, Write};
 use test_words::Committee;
 use voter_rules::config::check_config;
 use world_members::{Seat, config_of};
@@ -36,8 +36,11 @@ fn play_lines<S: Committee, M: Seat<S>, R: Read + Drop, W: Write>(
 ) -> Result<u8, Broken> {
     let mut script = Script::new(alloc, is_json);
     for line in BufReader::new(alloc, input)?.lines(alloc) {
-        let line = line?;
-        if !script.take::<S, M, W>(&line, output)? {
+        let is_taken = match line {
+            Ok(line) => script.take::<S, M, W>(&line, output)?,
+            Err(error) => script.miss(&error, output)?,
+        };
+        if !is_taken {
             return Ok(REFUSED);
         }
     }
@@ -89,6 +92,18 @@ impl Script {
         match self.scenario.take_line(self.alloc, line) {
             Ok(()) => Ok(true),
             Err(refusal) => self.refuse(refusal, output),
+        }
+    }
+
+    /// Takes it up that a line couldn't be read. It answers that the line is refused, where it is no text.
+    fn miss<W: Write>(&mut self, error: &io::Error, output: &mut W) -> Result<bool, Broken> {
+        match error.kind() {
+            ErrorKind::InvalidData => {
+                self.lines = self.lines.saturating_add(1);
+                self.refuse(Refusal::NoText, output)
+            }
+            ErrorKind::OutOfMemory => Err(Broken::Memory),
+            _ => Err(Broken::Device),
         }
     }
 

@@ -2,8 +2,8 @@
 
 ghost use Rattle.std.specs.Prelude.{◌≡◌, ◌∷◌, false, is_some};
 ghost use Rattle.std.specs.Option.{option_or};
-ghost use Rattle.voter_history.specs.Past.{entered, armed, latched, polled, entered_at, proposed_at, deadline, elapsed, is_unlatched, latch, stall_deadline, first_timeout, next_timeout};
-ghost use Rattle.simplex_round.specs.Round.{AtEach, Becomes};
+ghost use Rattle.voter_history.specs.Past.{entered, armed, latched, polled, entered_at, proposed_at, deadline, elapsed, is_unlatched, latch, stall_deadline, first_timeout, next_timeout, RetryIsKnown};
+ghost use Rattle.simplex_round.specs.Round.{AtEach, Becomes, Keeps};
 
 use crate::round::Round;
 use types_core::{Digest, Scheme};
@@ -90,7 +90,7 @@ impl<S: Scheme<D>, D: Digest> Round<S, D> {
 
     /// When the view is to be given up next, and why: at a reason that was taken only where it is allowed. A
     /// nullify that was voted is due again an interval after the first call that follows it, or at the last moment
-    /// of 64 bits.
+    /// of 64 bits. Where none was voted, or that is known, nothing changes.
     pub fn next_timeout(
         &mut self,
         now: u64,
@@ -98,6 +98,7 @@ impl<S: Scheme<D>, D: Digest> Round<S, D> {
         allow_latched_timeout: bool,
     ) -> Option<(u64, TimeoutReason)>
         ensures keeps { Becomes S.key_of self.old self.new (λ h. polled (deadline now retry_interval) ∷ h) }
+        ensures unchanged { AtEach S.key_of self.old (λ s l h. RetryIsKnown h → Keeps S.key_of s self.new l h) }
         ensures answer { AtEach S.key_of self.old (λ s l h. result ≡ next_timeout (polled (deadline now retry_interval) ∷ h) allow_latched_timeout) }
     {
         self.poll(now.saturating_add(retry_interval));
@@ -106,7 +107,8 @@ impl<S: Scheme<D>, D: Digest> Round<S, D> {
 
     /// A nullify that was voted is due again at this moment, where it isn't already at another.
     fn poll(&mut self, moment: u64)
-        ensures { Becomes S.key_of self.old self.new (λ h. polled moment ∷ h) }
+        ensures keeps { Becomes S.key_of self.old self.new (λ h. polled moment ∷ h) }
+        ensures unchanged { AtEach S.key_of self.old (λ s l h. RetryIsKnown h → Keeps S.key_of s self.new l h) }
     {
         if self.votes.nullify && self.deadlines.retry.is_none() {
             self.deadlines.retry = Some(moment);

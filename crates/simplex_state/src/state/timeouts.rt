@@ -15,20 +15,24 @@ use std::alloc::AllocError;
 use types_core::{Digest, Scheme, View};
 use types_terms::Elector;
 use voter_history::TimeoutReason;
+use voter_laws::the_timeout_is_the_earliest;
 use voter_rules::timing::{earlier, has_budget};
 
 impl<S: Scheme<D> + Drop, L: Elector<S, D>, D: Digest> State<S, L, D> {
     /// When and why the current view is given up next; nothing before the start. Behind an own nullify that is a retry interval after
-    /// this look, or the last moment of 64 bits, if none came since the vote.
+    /// this look, or the last moment of 64 bits, if none came since the vote. Where there is none, or one came since, nothing changes.
     ///
     /// # Errors
     ///
     /// `AllocError` where memory ran out.
     pub fn next_timeout(&mut self, now: u64) -> Result<Option<(u64, TimeoutReason)>, AllocError>
         ensures keeps { OnOk result (AtEach S.Scheme L.Elector self.old (λ s h. Keeps S.Scheme L.Elector s self.new (polled now ∷ h))) }
+        ensures unchanged { OnOk result (AtEach S.Scheme L.Elector self.old
+            (λ s h. past.RetryIsKnown (seen s h (current s h)) → Keeps S.Scheme L.Elector s self.new h)) }
         ensures answer { IfOk result (λ next.
             AtEach S.Scheme L.Elector self.old (λ s h. next ≡ (if nat_lt 0 (current s h) then timeout s (polled now ∷ h) now else None))) }
     {
+        the_timeout_is_the_earliest::<S, D>();
         let counts = self.has_skip_budget();
         let own = self.views.next_timeout(now, self.timeout_retry, counts)?;
         if !self.may_stall() {

@@ -3,10 +3,10 @@
 
 ghost use Rattle.std.specs.Prelude.{◌≡◌, ◌↔◌, ◌≤◌, ◌^◌, if◌then◌else◌, Bool, false, ◌∷◌, Some, None, is_some, IsTrue, IfSome, IfOk, OnOk, MatchOption};
 ghost use Rattle.voter_history.specs.Held.{held, building, confirmed, verifying, Agrees, IsUnverified};
-ghost use Rattle.voter_history.specs.Past.{offered, sent_notarization, sent_nullification, sent_finalization, has_sent_notarization, has_sent_nullification, has_sent_finalization, judged, bound, built, deadline, is_unlatched, latched, polled, voted_finalize, voted_notarize, voted_nullify, notarization, nullification, finalization, offers, has_finalized, has_nullified, next_timeout, verdict, MayFinalize, MayNotarize, MayPropose, MayVerify};
+ghost use Rattle.voter_history.specs.Past.{offered, sent_notarization, sent_nullification, sent_finalization, has_sent_notarization, has_sent_nullification, has_sent_finalization, judged, bound, built, deadline, is_unlatched, latched, polled, voted_finalize, voted_notarize, voted_nullify, notarization, nullification, finalization, offers, has_finalized, has_nullified, next_timeout, verdict, RetryIsKnown, MayFinalize, MayNotarize, MayPropose, MayVerify};
 ghost use Rattle.simplex_round.specs.Round as one;
 ghost use Rattle.voter_history.specs.Pasts.{bind, put};
-ghost use Rattle.voter_rounds.specs.Rounds.{AreUntracked, IsFirstTracked, Takes, recalled, setup_of, told};
+ghost use Rattle.voter_rounds.specs.Rounds.{AreUntracked, IsFirstTracked, IsTracked, Takes, recalled, setup_of, told};
 ghost use Rattle.voter_rounds.specs.Tracked.{Tables, Holds, AtEach};
 
 use crate::notice::Notice;
@@ -142,7 +142,7 @@ impl<S: Scheme<D> + Drop, D: Digest> Tracked<S, D> {
     }
 
     /// When and why the view is given up next, where a nullify that was voted is due again an interval after this look, or at the
-    /// last moment of 64 bits.
+    /// last moment of 64 bits. Where none was voted in a tracked view, or that is known, nothing changes.
     pub fn next_timeout(
         &mut self,
         view: View,
@@ -152,6 +152,8 @@ impl<S: Scheme<D> + Drop, D: Digest> Tracked<S, D> {
     ) -> Result<Option<(u64, TimeoutReason)>, AllocError>
         ensures keeps { OnOk result (AtEach S.Scheme self.old
             (λ f t. Holds S.Scheme f self.new (record t { past = put view (polled (deadline now retry_interval)) t.past }))) }
+        ensures unchanged { OnOk result (AtEach S.Scheme self.old
+            (λ f t. IsTracked (t.past view) (t.led view) → RetryIsKnown (t.past view) → Holds S.Scheme f self.new t)) }
         ensures answer { IfOk result (λ timeout.
             AtEach S.Scheme self.old (λ f t. timeout ≡ next_timeout (polled (deadline now retry_interval) ∷ t.past view) allow_latched_timeout)) }
     {

@@ -1,6 +1,6 @@
 //! When a voter gives a view up.
 
-ghost use Rattle.std.specs.Prelude.{◌≡◌, if◌then◌else◌, false, nat_lt, ◌∷◌, None, IfOk, OnOk};
+ghost use Rattle.std.specs.Prelude.{◌≡◌, ◌≢◌, ◌<◌, if◌then◌else◌, false, nat_lt, [], ◌∷◌, None, IfOk, OnOk};
 ghost use Rattle.voter_history.specs.Past as past;
 ghost use Rattle.voter_history.specs.History.{current, latched, polled, seen};
 ghost use Rattle.voter_views.specs.Views.{Keeps, AtEach};
@@ -31,8 +31,9 @@ impl<S: Scheme<D> + Drop, L: Elector<S, D>, D: Digest> Views<S, L, D> {
     }
 
     /// When and why the current view's own rules give it up next: where a nullify was voted, an interval after this look, if none
-    /// came since, or at the last moment of 64 bits. Nothing before the start. Moments and the interval are counted in milliseconds
-    /// from a beginning of the caller's choice.
+    /// came since, or at the last moment of 64 bits. Nothing before the start. Where no nullify was voted, or that is known, nothing
+    /// changes, if something happened to the current view, as it has behind the start. Moments and the interval are counted in
+    /// milliseconds from a beginning of the caller's choice.
     ///
     /// # Errors
     ///
@@ -45,6 +46,8 @@ impl<S: Scheme<D> + Drop, L: Elector<S, D>, D: Digest> Views<S, L, D> {
     ) -> Result<Option<(u64, TimeoutReason)>, AllocError>
         ensures keeps { OnOk result (AtEach S.Scheme L.Elector self.old
             (λ s h. s.timeout_retry ≡ retry_interval → Keeps S.Scheme L.Elector s self.new (polled now ∷ h))) }
+        ensures unchanged { OnOk result (AtEach S.Scheme L.Elector self.old
+            (λ s h. (0 < current s h → seen s h (current s h) ≢ []) → past.RetryIsKnown (seen s h (current s h)) → Keeps S.Scheme L.Elector s self.new h)) }
         ensures answer { IfOk result (λ timeout.
             AtEach S.Scheme L.Elector self.old (λ s h.
             timeout ≡ (if nat_lt 0 (current s h) then past.next_timeout

@@ -133,7 +133,10 @@ impl fmt::Debug for Wake {
 /// What is told may be lost, as where a connection ends or there is no room, and it may come late: nothing that has to arrive goes this
 /// way. At most [`LONGEST_MESSAGE`] bytes are told; longer ones are dropped.
 #[derive(Clone)]
-pub struct Gossip(Arc<dyn Fn(&[u8]) + Send + Sync>);
+pub struct Gossip(Arc<Tell>);
+
+/// Tells these bytes.
+type Tell = dyn Fn(&[u8]) + Send + Sync;
 
 /// The most bytes of a message between applications.
 pub const LONGEST_MESSAGE: usize = 1 << 18;

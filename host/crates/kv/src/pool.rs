@@ -35,6 +35,8 @@ struct Pending {
     waiters: HashMap<u64, oneshot::Sender<Answer>>,
     /// Who passed it on, and when, if a member did.
     from: Option<(u32, Instant)>,
+    /// Whether a block was seen that has it.
+    is_placed: bool,
 }
 
 /// What waits of one member's.
@@ -50,6 +52,8 @@ pub(crate) struct Pool {
     pending: HashMap<RequestId, Pending>,
     order: BTreeMap<u64, RequestId>,
     bytes: usize,
+    /// How many no block was seen of.
+    unplaced: usize,
     count: u64,
     of_peers: HashMap<u32, OfPeer>,
 }
@@ -59,8 +63,21 @@ impl Pool {
         self.pending.len()
     }
 
-    pub(crate) fn is_empty(&self) -> bool {
-        self.pending.is_empty()
+    /// Whether a request waits that no block has that was seen. Another that isn't in the chain in the end is built into a later block.
+    pub(crate) fn has_unplaced(&self) -> bool {
+        self.unplaced > 0
+    }
+
+    /// A block was seen that has these.
+    pub(crate) fn place<'a>(&mut self, ids: impl IntoIterator<Item = &'a RequestId>) {
+        for id in ids {
+            if let Some(pending) = self.pending.get_mut(id)
+                && !pending.is_placed
+            {
+                pending.is_placed = true;
+                self.unplaced -= 1;
+            }
+        }
     }
 
     /// Takes a request of a client in: whether it is new here. One that waits already is passed over.
@@ -115,7 +132,9 @@ impl Pool {
             place,
             waiters,
             from,
+            is_placed: false,
         };
+        self.unplaced += 1;
         self.pending.insert(pending.request.id, pending);
     }
 
@@ -197,6 +216,7 @@ impl Pool {
         let pending = self.pending.remove(&id)?;
         self.order.remove(&pending.place);
         self.bytes -= pending.length;
+        self.unplaced -= usize::from(!pending.is_placed);
         if let Some((from, _)) = pending.from
             && let Some(of_peer) = self.of_peers.get_mut(&from)
         {
@@ -250,7 +270,7 @@ mod tests {
         pool.answer(&one, &written());
         assert_eq!(first.try_recv(), Ok(written()));
         assert_eq!(second.try_recv(), Ok(written()));
-        assert!(pool.is_empty());
+        assert_eq!(pool.len(), 0);
     }
 
     #[test]
@@ -264,8 +284,30 @@ mod tests {
         pool.leave(one.id, first);
         assert_eq!(pool.len(), 1);
         pool.leave(one.id, second);
-        assert!(pool.is_empty());
+        assert_eq!(pool.len(), 0);
         assert!(pool.wait(one.id).is_none());
+    }
+
+    #[test]
+    fn what_a_block_has_is_no_work_any_more_until_more_comes() {
+        let mut pool = Pool::default();
+        let [one, two, three] = [1, 2, 3].map(|number| request(1, number, put("a", "1")));
+        assert!(!pool.has_unplaced());
+        pool.insert(one.clone()).unwrap();
+        pool.insert(two.clone()).unwrap();
+        pool.place([&one.id, &one.id, &three.id]);
+        assert!(pool.has_unplaced());
+        pool.place([&two.id]);
+        assert!(!pool.has_unplaced());
+        // They wait until they are carried out, and are in the next block if they weren't in this one.
+        assert_eq!(pool.batch(&HashSet::new()), [&one, &two]);
+        pool.insert(three.clone()).unwrap();
+        assert!(pool.has_unplaced());
+        pool.answer(&one, &written());
+        pool.answer(&three, &written());
+        assert!(!pool.has_unplaced());
+        pool.answer(&two, &written());
+        assert!(!pool.has_unplaced());
     }
 
     #[test]

@@ -23,7 +23,9 @@ const VERSION: u8 = 1;
 
 /// The state as bytes.
 pub fn spell(machine: &Machine) -> Vec<u8> {
-    let mut bytes = vec![VERSION];
+    let sum = machine.bytes() + 100 * machine.clients.len() + 100;
+    let mut bytes = Vec::with_capacity(sum);
+    bytes.push(VERSION);
     bytes.extend(machine.at.view.to_be_bytes());
     bytes.extend(machine.at.payload);
     bytes.extend(machine.chain);

@@ -137,12 +137,21 @@ impl Application for Store {
             .collect();
         let mut state = self.shared.state();
         state.pool.forget_old(Instant::now());
-        Some(batch::spell(state.pool.batch(&taken).into_iter()))
+        let chosen = state.pool.batch(&taken);
+        let contents = batch::spell(chosen.iter().copied());
+        let ids: Vec<RequestId> = chosen.iter().map(|request| request.id).collect();
+        state.pool.place(&ids);
+        Some(contents)
     }
 
     fn verify(&mut self, _context: &Context, _ancestors: &[Block], contents: &[u8]) -> bool {
         // A request that an ancestor has already is no fault: it is carried out once.
-        batch::read(contents).is_ok()
+        let Ok(requests) = batch::read(contents) else {
+            return false;
+        };
+        let ids = requests.iter().map(|request| &request.id);
+        self.shared.state().pool.place(ids);
+        true
     }
 
     fn certify(&mut self, block: &Block) -> bool {
@@ -223,7 +232,7 @@ impl Application for Store {
     }
 
     fn has_work(&self) -> bool {
-        !self.shared.state().pool.is_empty()
+        self.shared.state().pool.has_unplaced()
     }
 }
 

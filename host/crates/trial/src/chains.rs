@@ -63,14 +63,16 @@ pub struct Unordered {
 /// # Errors
 ///
 /// The first two that differ.
-pub fn agree(chains: &[Vec<Link>]) -> Result<(), Fork> {
+pub fn agree(chains: &[Vec<Link>]) -> Result<(), Box<Fork>> {
     for (one, first) in chains.iter().enumerate() {
         for (other, second) in chains.iter().enumerate().skip(one + 1) {
-            compare(first, second).map_err(|(of_one, of_other)| Fork {
-                one,
-                other,
-                of_one,
-                of_other,
+            compare(first, second).map_err(|(of_one, of_other)| {
+                Box::new(Fork {
+                    one,
+                    other,
+                    of_one,
+                    of_other,
+                })
             })?;
         }
     }

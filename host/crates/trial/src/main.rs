@@ -2,7 +2,7 @@
 
 use anyhow::{Context, Result, bail};
 use clap::{Parser, Subcommand, ValueEnum};
-use std::path::PathBuf;
+use std::path::{Path, PathBuf};
 use std::process::ExitCode;
 use std::time::Duration;
 use tokio::signal::unix::{SignalKind, signal};
@@ -146,7 +146,7 @@ impl Run {
     }
 }
 
-fn check(file: &PathBuf, plant: Option<Fault>, seed: u64) -> Result<bool> {
+fn check(file: &Path, plant: Option<Fault>, seed: u64) -> Result<bool> {
     let mut seen = trial::run::read(file)?;
     if let Some(fault) = plant {
         let place = fault.plant(&mut seen, &mut Random::new(seed));

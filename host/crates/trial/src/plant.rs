@@ -185,7 +185,7 @@ fn take_vote_back(seen: &mut Seen, random: &mut Random) -> Option<String> {
     let vote = votes.get(random.below(votes.len().max(1) as u64) as usize)?;
     let other = Proposal {
         parent: 0,
-        payload: [random.next() as u8; 32],
+        payload: [random.bits() as u8; 32],
     };
     let against = match vote.subject {
         Subject::Notarize(_) => Subject::Notarize(other),

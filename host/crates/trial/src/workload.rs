@@ -285,7 +285,7 @@ struct Name {
 impl Name {
     fn new(workload: &Workload, random: &mut Random) -> Name {
         let process = workload.processes.fetch_add(1, Ordering::SeqCst);
-        let digits = format!("{process:016x}{:016x}", random.next());
+        let digits = format!("{process:016x}{:016x}", random.bits());
         Name {
             process,
             digits,

@@ -12,14 +12,16 @@ use crate::metrics::{Metrics, Status};
 use crate::network::{Letter, Network};
 use crate::snapshots::{Joining, Next, Snapshot, SnapshotFile};
 use crate::wire::{self, Event, Payload, Plan, Proposal};
-use anyhow::{Context as _, Result, ensure};
+use anyhow::{Context as _, Result, anyhow, ensure};
 use application::{Application, Block, BlockId, Context, Gossip, LONGEST_MESSAGE, Wake};
 use std::collections::HashMap;
 use std::path::Path;
-use std::sync::Arc;
-use std::sync::mpsc::{Receiver, RecvTimeoutError, SyncSender, TrySendError, sync_channel};
+use std::sync::atomic::{AtomicBool, Ordering};
+use std::sync::mpsc::{Receiver, RecvTimeoutError, SyncSender, sync_channel};
+use std::sync::{Arc, Mutex};
+use std::thread::{self, JoinHandle};
 use std::time::{Duration, Instant};
-use tracing::{error, info, warn};
+use tracing::{debug, error, info, warn};
 
 /// What comes to the application's thread.
 #[derive(Debug)]
@@ -36,8 +38,8 @@ pub enum Request {
     Forward(Payload, Plan),
     /// This proposal is final, and all its ancestors.
     Finalized(Proposal),
-    /// What a peer's host sent.
-    Frame(u32, Frame),
+    /// What a peer's host sent: the peer, the frame, and how many bytes it has.
+    Frame(u32, Frame, usize),
     /// The application may have something to propose.
     Wake,
     /// End.
@@ -46,16 +48,55 @@ pub enum Request {
 
 /// Where requests are put.
 #[derive(Clone)]
-pub struct ChainHandle(SyncSender<Request>);
+pub struct ChainHandle {
+    requests: SyncSender<Request>,
+    waiting: Arc<Waiting>,
+}
 
-/// How many requests may wait. The node's own find room before they come: it has few open at a time.
+/// What waits of others than the node.
+#[derive(Default)]
+struct Waiting {
+    /// How many frames of each peer, and how many bytes they have.
+    frames: Mutex<HashMap<u32, (usize, usize)>>,
+    /// Whether the application asked to be looked at.
+    wake: AtomicBool,
+}
+
+impl Waiting {
+    /// Takes room for a frame of so many bytes, if this peer has it.
+    fn take(&self, peer: u32, size: usize) -> bool {
+        let mut frames = self.frames.lock().expect("no thread failed with it");
+        let (count, bytes) = frames.entry(peer).or_default();
+        let has_room = *count < SHARE.0 && (*count == 0 || *bytes + size <= SHARE.1);
+        if has_room {
+            *count += 1;
+            *bytes += size;
+        }
+        has_room
+    }
+
+    fn give_back(&self, peer: u32, size: usize) {
+        let mut frames = self.frames.lock().expect("no thread failed with it");
+        if let Some((count, bytes)) = frames.get_mut(&peer) {
+            *count -= 1;
+            *bytes -= size;
+        }
+    }
+}
+
+/// How many requests of the node may wait. It has few open at a time.
 const ROOM: usize = 4096;
 
+/// How many frames of one peer may wait beside, and how many bytes of them if there are more than one: so who sends much takes no room
+/// from the node or from other peers.
+const SHARE: (usize, usize) = (256, 8 << 20);
+
 impl ChainHandle {
-    /// Where requests are put, and where they are taken.
-    pub fn new() -> (ChainHandle, Receiver<Request>) {
-        let (sender, receiver) = sync_channel(ROOM);
-        (ChainHandle(sender), receiver)
+    /// Where requests are put, and where they are taken, of a member of so many.
+    pub fn new(members: u32) -> (ChainHandle, Receiver<Request>) {
+        let (requests, receiver) = sync_channel(ROOM + SHARE.0 * members as usize);
+        let waiting = Arc::default();
+        (ChainHandle { requests, waiting }, receiver)
     }
 
     /// Puts a request in, and waits for room.
@@ -64,24 +105,33 @@ impl ChainHandle {
     ///
     /// Where the application's thread has ended.
     pub fn ask(&self, request: Request) -> Result<()> {
-        let sent = self.0.send(request);
+        let sent = self.requests.send(request);
         sent.ok().context("the application's thread has ended")
     }
 
-    /// Puts a request in if there is room for it, and answers whether there was.
-    pub fn offer(&self, request: Request) -> bool {
-        match self.0.try_send(request) {
-            Ok(()) => true,
-            Err(TrySendError::Full(_) | TrySendError::Disconnected(_)) => false,
+    /// Puts in what a peer's host sent, if there is room for more of this peer's, and answers whether there was.
+    pub fn hear(&self, peer: u32, frame: Frame, size: usize) -> bool {
+        let has_room = self.waiting.take(peer, size);
+        let is_in = has_room
+            && self
+                .requests
+                .try_send(Request::Frame(peer, frame, size))
+                .is_ok();
+        if has_room && !is_in {
+            self.waiting.give_back(peer, size);
         }
+        is_in
     }
 
     /// What an application calls where it has something to propose.
     pub fn wake(&self) -> Wake {
         let handle = self.clone();
         Wake::new(move || {
-            // Where there is no room, it looks soon anyway.
-            handle.offer(Request::Wake);
+            let waits = handle.waiting.wake.swap(true, Ordering::SeqCst);
+            if !waits && handle.requests.try_send(Request::Wake).is_err() {
+                // There is no room, so it looks soon anyway.
+                handle.waiting.wake.store(false, Ordering::SeqCst);
+            }
         })
     }
 }
@@ -129,6 +179,9 @@ pub struct Surroundings {
 /// What is said where a member stops whose application is out of reach.
 const LOST: &str = "stopped while the application was asked: it is told again behind a restart";
 
+/// How many requests are taken before it is looked what can be done.
+const BATCH: usize = 64;
+
 /// How often what waits is looked at where nothing comes.
 const BEAT: Duration = Duration::from_millis(20);
 
@@ -172,14 +225,21 @@ enum Walk {
 pub struct Chain {
     settings: ChainSettings,
     around: Surroundings,
+    waiting: Arc<Waiting>,
     application: Box<dyn Application>,
     blocks: BlockFile,
     pool: Pool,
     snapshots: SnapshotFile,
     snapshot: Option<Snapshot>,
+    /// The snapshot that is being written.
+    writing: Option<JoinHandle<Result<Snapshot>>>,
     joining: Option<Joining>,
+    /// How often that began.
+    joins: usize,
     applied: BlockId,
     target: BlockId,
+    /// The last final block that contradicts one that was carried out: it is told of once.
+    contradiction: Option<BlockId>,
     life: u64,
     builds: Vec<Pending<(u64, wire::Context)>>,
     checks: Vec<Pending<(u64, wire::Context, Proposal)>>,
@@ -245,21 +305,25 @@ impl Chain {
         application.attach(handle.wake());
         application.introduce(gossip(&around));
         if let Some(snapshot) = &snapshot {
-            application.restore(&snapshot.at, &snapshot.bytes)?;
-            applied = snapshot.at;
+            application.restore(&snapshot.at(), snapshot.bytes())?;
+            applied = snapshot.at();
         }
         around.status.change(|state| state.applied = applied);
         Ok(Chain {
             settings,
             around,
+            waiting: handle.waiting.clone(),
             application,
             blocks: BlockFile::open(&folder.join("blocks"))?,
             pool: Pool::new(POOL),
             snapshots,
             snapshot,
+            writing: None,
             joining: None,
+            joins: 0,
             applied,
             target: applied,
+            contradiction: None,
             life: 0,
             builds: Vec::new(),
             checks: Vec::new(),
@@ -276,10 +340,17 @@ impl Chain {
     /// Where a file fails: this member can't vote any more.
     pub fn run(mut self, requests: &Receiver<Request>) -> Result<()> {
         loop {
-            match requests.recv_timeout(BEAT) {
-                Ok(Request::Stop) | Err(RecvTimeoutError::Disconnected) => return Ok(()),
-                Ok(request) => self.take(request)?,
-                Err(RecvTimeoutError::Timeout) => {}
+            let first = match requests.recv_timeout(BEAT) {
+                Ok(request) => Some(request),
+                Err(RecvTimeoutError::Timeout) => None,
+                Err(RecvTimeoutError::Disconnected) => return self.finish_snapshot(true),
+            };
+            // What waits is taken at once, as far as it goes.
+            for request in first.into_iter().chain(requests.try_iter().take(BATCH)) {
+                if matches!(request, Request::Stop) {
+                    return self.finish_snapshot(true);
+                }
+                self.take(request)?;
             }
             self.go_on()?;
         }
@@ -313,14 +384,19 @@ impl Chain {
                     self.target = id;
                 }
             }
-            Request::Frame(sender, frame) => self.hear(sender, frame)?,
-            Request::Wake | Request::Stop => {}
+            Request::Frame(sender, frame, size) => {
+                self.waiting.give_back(sender, size);
+                self.hear(sender, frame)?;
+            }
+            Request::Wake => self.waiting.wake.store(false, Ordering::SeqCst),
+            Request::Stop => {}
         }
         Ok(())
     }
 
     /// Does all that can be done with the blocks that are here, and asks for those that are lacking.
     fn go_on(&mut self) -> Result<()> {
+        self.finish_snapshot(false)?;
         self.advance()?;
         for pending in std::mem::take(&mut self.verdicts) {
             if !self.judge(&pending.asked)? {
@@ -350,7 +426,7 @@ impl Chain {
             let metrics = &self.around.metrics;
             metrics.syncs.with_label_values(&["blocks"]).inc();
             let size = metrics.file_bytes.with_label_values(&["blocks"]);
-            size.set(self.blocks.size as i64);
+            size.set(self.blocks.size() as i64);
         }
         Ok(())
     }
@@ -444,7 +520,8 @@ impl Chain {
                 Ok(())
             }
             Walk::Elsewhere => {
-                if self.target.view > self.applied.view {
+                let is_told = self.contradiction.replace(self.target) == Some(self.target);
+                if self.target.view > self.applied.view && !is_told {
                     error!(target = %self.target, applied = %self.applied, "final blocks that contradict each other");
                 }
                 Ok(())
@@ -466,23 +543,54 @@ impl Chain {
         Ok(())
     }
 
-    /// Writes the state behind the last block, and forgets the blocks before the snapshot before it: who lags may want those between.
+    /// Has the state behind the last block written, beside this thread: a large one takes seconds, and votes don't wait for it. Where the
+    /// one before is being written yet, the disk is slow, and the next one will do.
     fn take_snapshot(&mut self) -> Result<()> {
+        if self.writing.is_some() {
+            return Ok(());
+        }
         self.sync()?;
-        let snapshot = Snapshot {
-            at: self.applied,
-            bytes: self.application.snapshot(),
-        };
+        let begun = Instant::now();
+        let (at, bytes) = (self.applied, self.application.snapshot());
         ensure!(!self.application.is_lost(), LOST);
-        self.keep_snapshot(snapshot)
+        let (size, took) = (bytes.len(), begun.elapsed());
+        debug!(%at, size, ?took, "a snapshot is taken");
+        let file = self.snapshots.clone();
+        let builder = thread::Builder::new().name("snapshot".to_owned());
+        self.writing = Some(builder.spawn(move || {
+            let snapshot = Snapshot::new(at, bytes);
+            file.write(&snapshot)?;
+            debug!(%at, took = ?begun.elapsed(), "it is written");
+            Ok(snapshot)
+        })?);
+        Ok(())
     }
 
+    /// Keeps the snapshot that was being written, if it is written or is to be waited for.
+    fn finish_snapshot(&mut self, waits: bool) -> Result<()> {
+        let is_over = |writing: &JoinHandle<_>| waits || writing.is_finished();
+        match self.writing.take_if(|writing| is_over(writing)) {
+            Some(writing) => {
+                let written = writing.join();
+                self.keep_snapshot(written.map_err(|_| anyhow!("writing a snapshot failed"))??)
+            }
+            None => Ok(()),
+        }
+    }
+
+    /// Has this snapshot, which is on the disk, in place of the one before, and forgets the blocks before that: who lags may want those
+    /// between.
     fn keep_snapshot(&mut self, snapshot: Snapshot) -> Result<()> {
-        self.snapshots.write(&snapshot)?;
         let before = self.snapshot.replace(snapshot);
-        let below = before.map_or(0, |before| before.at.view);
+        let below = before.map_or(0, |before| before.at().view);
         self.blocks.prune(below)?;
         self.pool.prune(self.applied.view);
+        let size = self
+            .around
+            .metrics
+            .file_bytes
+            .with_label_values(&["blocks"]);
+        size.set(self.blocks.size() as i64);
         let syncs = &self.around.metrics.syncs;
         syncs.with_label_values(&["snapshot"]).inc();
         syncs.with_label_values(&["blocks"]).inc();
@@ -643,7 +751,7 @@ impl Chain {
                 bytes,
             } => {
                 if let Some(joining) = &mut self.joining {
-                    let next = joining.piece(Instant::now(), digest, from, &bytes);
+                    let next = joining.piece(Instant::now(), sender, digest, from, &bytes);
                     self.go_on_joining(next)?;
                 }
             }
@@ -732,7 +840,8 @@ impl Chain {
 
     /// Asks all for their snapshots, since blocks that are lacking are kept no more.
     fn join(&mut self) {
-        self.joining = Some(Joining::new(Instant::now()));
+        self.joining = Some(Joining::new(Instant::now(), self.joins));
+        self.joins += 1;
         let letter = Letter::new(&Frame::AskSnapshot);
         self.around.network.send_to_all(letter);
     }
@@ -757,14 +866,16 @@ impl Chain {
             }
             Next::Done(snapshot) => {
                 self.joining = None;
-                match self.application.restore(&snapshot.at, &snapshot.bytes) {
+                match (self.application).restore(&snapshot.at(), snapshot.bytes()) {
                     Ok(()) => {
-                        info!(at = %snapshot.at, "a snapshot was taken from others");
-                        self.applied = snapshot.at;
+                        info!(at = %snapshot.at(), "a snapshot was taken from others");
+                        self.applied = snapshot.at();
                         let applied = self.applied;
                         self.around.status.change(|state| state.applied = applied);
                         self.around.metrics.applied.set(applied.view as i64);
                         self.wanted.clear();
+                        self.finish_snapshot(true)?;
+                        self.snapshots.write(&snapshot)?;
                         self.keep_snapshot(snapshot)?;
                     }
                     Err(told) => warn!(%told, "f+1 members offer a snapshot that is none"),

@@ -5,6 +5,7 @@
 //! record to the next: the node's numbers of requests and moments count from 0 in each, and no answer of one reaches another.
 
 use crate::chain::{ChainHandle, Request};
+use crate::early::Early;
 use crate::envelope::{Opened, Sealer};
 use crate::frame::Frame;
 use crate::inbox::{Inbox, Input};
@@ -21,13 +22,16 @@ use application::BlockId;
 use std::collections::HashSet;
 use std::sync::Arc;
 use std::time::{Duration, Instant};
-use tracing::{debug, info, warn};
+use tracing::{debug, info, trace, warn};
 
 /// How many events are handed in before the disk is synced and the replies are carried out.
 const BATCH: usize = 32;
 
 /// The views of a term, as the program `simplex` is set up.
 const TERM: u64 = 4;
+
+/// How many views ahead a node listens at most: up to the second one of the term behind the next.
+pub const LISTENS_AHEAD: u64 = 2 * TERM + 1;
 
 /// How exactly the time is told, in milliseconds. Each telling costs the node a step.
 const BEAT: u64 = 5;
@@ -98,6 +102,9 @@ struct Life {
     pruned: u64,
     /// The certificates that the node reported: it would refuse each of them as a repetition.
     recorded: HashSet<(VoteKind, On)>,
+    /// The view that the node stands at, by what it reported.
+    entered: u64,
+    early: Early,
 }
 
 impl Life {
@@ -112,6 +119,11 @@ impl Life {
             Message::Certificate(it) => self.recorded.contains(&(it.kind, it.on)),
             Message::Vote(_) | Message::Fetch(_) => false,
         }
+    }
+
+    /// Whether it is a vote of a view that is still to come.
+    fn may_listen_later(&self, message: &Message) -> bool {
+        matches!(message, Message::Vote(_)) && message.view() > self.entered
     }
 
     /// When the node wants to be told the time, if it does.
@@ -139,7 +151,10 @@ impl Engine {
                 return Ok(());
             };
             match self.live(&mut life, patience)? {
-                Ended::Stopped => return life.node.close(),
+                Ended::Stopped => {
+                    self.signatures.sync()?;
+                    return life.node.close();
+                }
                 Ended::Stuck => {
                     // The record has all that it handed out, however it ended.
                     if let Err(told) = life.node.close() {
@@ -195,6 +210,8 @@ impl Engine {
             told: 0,
             pruned: 0,
             recorded: HashSet::new(),
+            entered: 0,
+            early: Early::default(),
         };
         self.reports.remember()?;
         self.carry_out(&mut life, first)?;
@@ -204,6 +221,11 @@ impl Engine {
 
     fn live(&mut self, life: &mut Life, patience: Duration) -> Result<Ended> {
         loop {
+            let early = life.early.due(life.entered, LISTENS_AHEAD);
+            if !early.is_empty() {
+                self.step_all(life, early)?;
+                continue;
+            }
             let stuck = self.status.get().entered + patience;
             let until = life.rings().map_or(stuck, |rings| rings.min(stuck));
             let batch = self.inbox.take(Some(until), BATCH);
@@ -227,18 +249,29 @@ impl Engine {
             replies.push(self.step(life, &Event::Moment(now))?);
         }
         for input in batch {
-            let event = match input {
+            let reply = match input {
                 Input::Packet(_, opened) if life.has_recorded(&opened.message) => {
                     self.metrics.repeated.inc();
                     continue;
                 }
-                Input::Packet(sender, opened) => self.packet(sender, opened),
-                Input::Answer(number, event) if number == life.number => event,
+                Input::Packet(sender, opened) => self.packet(life, sender, opened)?,
+                Input::Answer(number, event) if number == life.number => self.step(life, &event)?,
                 Input::Answer(..) | Input::Stop => continue,
             };
-            replies.push(self.step(life, &event)?);
+            replies.push(reply);
         }
-        if self.signatures.sync()? {
+        // Own votes are signed anew each time: with certificates alone others' signatures leave.
+        let mut actions = replies.iter().flat_map(|reply| &reply.actions);
+        let is_shown = actions.any(|action| {
+            matches!(
+                action,
+                Action::Send {
+                    channel: Channel::Certificates,
+                    ..
+                }
+            )
+        });
+        if is_shown && self.signatures.sync()? {
             self.metrics.syncs.with_label_values(&["signatures"]).inc();
         }
         replies
@@ -246,17 +279,31 @@ impl Engine {
             .try_for_each(|reply| self.carry_out(life, reply))
     }
 
-    fn packet(&mut self, sender: u32, opened: Opened) -> Event {
+    /// Hands a packet in. One that came before the node listens to its view is kept until it does; of one that the node takes or knows
+    /// the signatures are kept, and no others, of which a peer may send any number.
+    fn packet(&mut self, life: &mut Life, sender: u32, opened: Opened) -> Result<Reply> {
+        let reply = self.step(
+            life,
+            &Event::Packet {
+                sender,
+                channel: opened.sealed.channel,
+                bytes: opened.sealed.plain.clone(),
+            },
+        )?;
+        if reply.is_about_it() {
+            self.keep_signatures(&opened);
+        } else if reply.is_of_views_apart() && life.may_listen_later(&opened.message) {
+            life.early.keep(sender, opened);
+        }
+        Ok(reply)
+    }
+
+    fn keep_signatures(&mut self, opened: &Opened) {
         let view = opened.message.view();
         let signed = opened.message.attestations().iter();
         for (attestation, signature) in signed.zip(&opened.sealed.signatures) {
             self.signatures
                 .keep(&self.sealer.signatures, *attestation, view, *signature);
-        }
-        Event::Packet {
-            sender,
-            channel: opened.sealed.channel,
-            bytes: opened.sealed.plain,
         }
     }
 
@@ -264,6 +311,10 @@ impl Engine {
         let timer = self.metrics.step_seconds.start_timer();
         let reply = life.node.step(event)?;
         timer.observe_duration();
+        trace!(%event, "in");
+        for action in &reply.actions {
+            trace!(%action, "out");
+        }
         if let Some(why) = reply.refusal() {
             self.metrics.refusals.with_label_values(&[why]).inc();
             debug!(why, "the node refused an event");
@@ -347,8 +398,8 @@ impl Engine {
         if let Report::Certificate(certificate) = &report {
             life.recorded.insert((certificate.kind, certificate.on));
         }
-        self.enter(&report);
-        if self.reports.has(&plain) {
+        self.enter(life, &report);
+        if self.reports.has(&plain, &report) {
             return Ok(());
         }
         if let Report::Evidence(first, _) = &report {
@@ -373,7 +424,7 @@ impl Engine {
 
     /// What a report says of the view that the node stands at: a true verdict and a finalization lead to the next one, a nullification
     /// past its term.
-    fn enter(&self, report: &Report) {
+    fn enter(&self, life: &mut Life, report: &Report) {
         let view = report.view();
         let entered = match report {
             Report::Certified(_) => view.saturating_add(1),
@@ -387,6 +438,7 @@ impl Engine {
             },
             Report::Vote(_) | Report::Evidence(..) => return,
         };
+        life.entered = life.entered.max(entered);
         self.status.change(|state| {
             if entered > state.view {
                 let passed = state.entered.elapsed().as_secs_f64();

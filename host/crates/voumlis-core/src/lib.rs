@@ -10,7 +10,7 @@
 //! | [`committee`] | the members' keys |
 //! | [`envelope`], [`signatures`] | the signatures beside plain packets, and their store |
 //! | [`member`] | the node: a child process, or the library in this process |
-//! | [`inbox`], [`engine`] | the loop |
+//! | [`inbox`], [`early`], [`engine`] | the loop |
 //! | [`chain`], [`blocks`], [`snapshots`] | the application's side |
 //! | [`frame`], [`network`], [`allowance`] | what goes between hosts |
 //! | [`reports`], [`judge`] | who lied |
@@ -20,6 +20,7 @@ pub mod allowance;
 pub mod blocks;
 pub mod chain;
 pub mod committee;
+pub mod early;
 pub mod engine;
 pub mod envelope;
 mod files;

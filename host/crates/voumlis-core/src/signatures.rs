@@ -175,7 +175,7 @@ impl SignatureFile {
                 .flat_map(|(attestation, kept)| spelled(attestation, kept.view, &kept.signature))
                 .collect()
         };
-        files::replace(&self.path, &left)?;
+        files::replace(&self.path, &[&left])?;
         self.file = files::open_to_append(&self.path, left.len() as u64)?;
         self.entries = left.len() / ENTRY;
         self.waiting.clear();

@@ -13,20 +13,35 @@ use std::time::{Duration, Instant};
 /// The last snapshot.
 #[derive(Clone, Debug, PartialEq, Eq)]
 pub struct Snapshot {
-    /// The last block that it holds.
-    pub at: BlockId,
-    /// The application's bytes.
-    pub bytes: Vec<u8>,
+    offer: Offer,
+    bytes: Vec<u8>,
 }
 
 impl Snapshot {
+    /// The application's bytes behind this block.
+    pub fn new(at: BlockId, bytes: Vec<u8>) -> Snapshot {
+        // Whoever takes it from here asks for many pieces: it is hashed once.
+        let offer = Offer {
+            at,
+            size: bytes.len() as u64,
+            digest: sha256(&[&bytes]),
+        };
+        Snapshot { offer, bytes }
+    }
+
+    /// The last block that it holds.
+    pub fn at(&self) -> BlockId {
+        self.offer.at
+    }
+
+    /// The application's bytes.
+    pub fn bytes(&self) -> &[u8] {
+        &self.bytes
+    }
+
     /// What is told others of it.
     pub fn offer(&self) -> Offer {
-        Offer {
-            at: self.at,
-            size: self.bytes.len() as u64,
-            digest: sha256(&[&self.bytes]),
-        }
+        self.offer
     }
 
     /// The piece that begins at this place, if there is one.
@@ -37,6 +52,7 @@ impl Snapshot {
 }
 
 /// The snapshot's file: view in 8 bytes, the most significant first, payload, SHA-256 of the bytes, the bytes.
+#[derive(Clone)]
 pub struct SnapshotFile {
     path: PathBuf,
 }
@@ -66,15 +82,13 @@ impl SnapshotFile {
             view: u64::from_be_bytes(head[..8].try_into()?),
             payload: head[8..40].try_into()?,
         };
+        let snapshot = Snapshot::new(at, bytes.to_vec());
         ensure!(
-            sha256(&[bytes]) == head[40..],
+            snapshot.offer.digest == head[40..],
             "{} isn't as it was written",
             named()
         );
-        Ok(Some(Snapshot {
-            at,
-            bytes: bytes.to_vec(),
-        }))
+        Ok(Some(snapshot))
     }
 
     /// Writes a snapshot in the place of the one before. Behind a crash there is one of the two.
@@ -83,13 +97,13 @@ impl SnapshotFile {
     ///
     /// Those of the files.
     pub fn write(&self, snapshot: &Snapshot) -> Result<()> {
-        let head = [
-            &snapshot.at.view.to_be_bytes()[..],
-            &snapshot.at.payload,
-            &sha256(&[&snapshot.bytes]),
+        let parts = [
+            &snapshot.offer.at.view.to_be_bytes()[..],
+            &snapshot.offer.at.payload,
+            &snapshot.offer.digest,
+            &snapshot.bytes,
         ];
-        let bytes = [&head.concat()[..], &snapshot.bytes].concat();
-        files::replace(&self.path, &bytes).with_context(|| format!("{}", self.path.display()))
+        files::replace(&self.path, &parts).with_context(|| format!("{}", self.path.display()))
     }
 }
 
@@ -99,8 +113,10 @@ const LARGEST: u64 = 1 << 30;
 /// How long a piece is waited for, or enough equal offers.
 const PATIENCE: Duration = Duration::from_secs(2);
 
-/// The taking of a snapshot from others: one that f+1 members offer alike, so that a correct one of them vouches for it.
+/// The taking of a snapshot from others: one that f+1 members offer alike, so that a correct one of them vouches for it. All of its pieces
+/// are taken from one of them, and in another try from another, since a piece alone tells nobody whether it is right.
 pub struct Joining {
+    tries: usize,
     offers: HashMap<Offer, BTreeSet<u32>>,
     taking: Option<Taking>,
     until: Instant,
@@ -124,9 +140,10 @@ pub enum Next {
 }
 
 impl Joining {
-    /// A beginning, behind which all are asked.
-    pub fn new(now: Instant) -> Joining {
+    /// A beginning behind so many others, behind which all are asked.
+    pub fn new(now: Instant, tries: usize) -> Joining {
         Joining {
+            tries,
             offers: HashMap::new(),
             taking: None,
             until: now + PATIENCE,
@@ -144,29 +161,40 @@ impl Joining {
             return Next::Wait;
         }
         // A member has one snapshot: what it offered before counts no more.
-        for holders in self.offers.values_mut() {
+        self.offers.retain(|_, holders| {
             holders.remove(&sender);
-        }
+            !holders.is_empty()
+        });
         let holders = self.offers.entry(offer).or_default();
         holders.insert(sender);
         if holders.len() as u32 <= committee.liars() {
             return Next::Wait;
         }
-        self.taking = Some(Taking {
+        let holder = holders.iter().nth(self.tries % holders.len());
+        self.taking = holder.map(|holder| Taking {
             offer,
-            holder: sender,
+            holder: *holder,
             bytes: Vec::new(),
         });
         self.next()
     }
 
-    /// A piece that a member sent.
-    pub fn piece(&mut self, now: Instant, digest: [u8; 32], from: u64, piece: &[u8]) -> Next {
+    /// A piece that a member sent. It counts if it is the one that this member was asked for, and whole.
+    pub fn piece(
+        &mut self,
+        now: Instant,
+        sender: u32,
+        digest: [u8; 32],
+        from: u64,
+        piece: &[u8],
+    ) -> Next {
         let Some(taking) = &mut self.taking else {
             return Next::Wait;
         };
-        let is_next = digest == taking.offer.digest && from == taking.bytes.len() as u64;
-        if !is_next || piece.is_empty() {
+        let have = taking.bytes.len() as u64;
+        let is_asked = sender == taking.holder && digest == taking.offer.digest && from == have;
+        let left = taking.offer.size.saturating_sub(have);
+        if !is_asked || piece.len() as u64 != left.min(PIECE as u64) {
             return Next::Wait;
         }
         taking.bytes.extend(piece);
@@ -184,15 +212,13 @@ impl Joining {
             self.taking = Some(taking);
             return next;
         }
-        if sha256(&[&taking.bytes]) != taking.offer.digest {
-            // The holder lied: its offers are forgotten, and the others' are asked for again when the patience ends.
+        let snapshot = Snapshot::new(taking.offer.at, taking.bytes);
+        if snapshot.offer != taking.offer {
+            // The holder lied. All are asked again when the patience ends, and then it is taken from another.
             self.offers.clear();
             return Next::Wait;
         }
-        Next::Done(Snapshot {
-            at: taking.offer.at,
-            bytes: taking.bytes,
-        })
+        Next::Done(snapshot)
     }
 }
 
@@ -207,13 +233,8 @@ mod tests {
     }
 
     fn snapshot(byte: u8) -> Snapshot {
-        Snapshot {
-            at: BlockId {
-                view: 256,
-                payload: [1; 32],
-            },
-            bytes: vec![byte; PIECE + 5],
-        }
+        let (view, payload) = (256, [1; 32]);
+        Snapshot::new(BlockId { view, payload }, vec![byte; PIECE + 5])
     }
 
     #[test]
@@ -234,7 +255,7 @@ mod tests {
     #[test]
     fn one_member_alone_makes_nobody_take_a_snapshot() {
         let now = Instant::now();
-        let mut joining = Joining::new(now);
+        let mut joining = Joining::new(now, 1);
         let committee = committee();
         let false_one = snapshot(9).offer();
         for _ in 0..3 {
@@ -245,26 +266,50 @@ mod tests {
         let mut offered = |member| joining.offered(&committee, member, true_one.offer());
         assert_eq!(offered(0), Next::Wait);
         assert_eq!(offered(1), Next::Ask(1, digest, 0));
-        let piece = true_one.piece(0).unwrap();
-        let second = Next::Ask(1, digest, PIECE as u64);
-        assert_eq!(joining.piece(now, digest, 0, piece), second);
-        assert_eq!(joining.piece(now, digest, 0, piece), Next::Wait);
+        let first = true_one.piece(0).unwrap();
+        let mut piece = |sender, from, bytes| joining.piece(now, sender, digest, from, bytes);
+        // Others than the one that was asked say nothing, nor does a part of a piece.
+        let false_one = snapshot(9);
+        assert_eq!(piece(3, 0, false_one.piece(0).unwrap()), Next::Wait);
+        assert_eq!(piece(1, 0, &first[..1]), Next::Wait);
+        assert_eq!(piece(1, 0, first), Next::Ask(1, digest, PIECE as u64));
+        assert_eq!(piece(1, 0, first), Next::Wait);
         let rest = true_one.piece(PIECE as u64).unwrap();
-        let done = joining.piece(now, digest, PIECE as u64, rest);
+        let done = piece(1, PIECE as u64, rest);
         assert_eq!(done, Next::Done(true_one));
+    }
+
+    #[test]
+    fn in_another_try_another_member_is_asked_and_offers_that_change_take_no_room() {
+        let (now, committee) = (Instant::now(), committee());
+        let true_one = snapshot(1).offer();
+        let asked = (0..3).map(|tries| {
+            let mut joining = Joining::new(now, tries);
+            for size in 0..1000 {
+                let false_one = Offer { size, ..true_one };
+                joining.offered(&committee, 0, false_one);
+            }
+            assert_eq!(joining.offers.len(), 1);
+            joining.offered(&committee, 0, true_one);
+            match joining.offered(&committee, 2, true_one) {
+                Next::Ask(holder, ..) => holder,
+                other => panic!("{other:?}"),
+            }
+        });
+        assert_eq!(asked.collect::<Vec<_>>(), [0, 2, 0]);
     }
 
     #[test]
     fn other_bytes_than_were_offered_are_not_taken() {
         let now = Instant::now();
-        let mut joining = Joining::new(now);
+        let mut joining = Joining::new(now, 0);
         let (committee, offer) = (committee(), snapshot(1).offer());
         joining.offered(&committee, 0, offer);
         joining.offered(&committee, 1, offer);
         let other = snapshot(2);
-        joining.piece(now, offer.digest, 0, other.piece(0).unwrap());
+        joining.piece(now, 0, offer.digest, 0, other.piece(0).unwrap());
         let rest = other.piece(PIECE as u64).unwrap();
-        let end = joining.piece(now, offer.digest, PIECE as u64, rest);
+        let end = joining.piece(now, 0, offer.digest, PIECE as u64, rest);
         assert_eq!(end, Next::Wait);
         assert!(joining.is_stuck(now + PATIENCE));
     }

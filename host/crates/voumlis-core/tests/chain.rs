@@ -5,6 +5,7 @@ mod common;
 use application::{Application, Block, BlockId, Context, RestoreError};
 use common::{Remembered, patience, sealers, until};
 use std::path::Path;
+use std::process::Command;
 use std::sync::{Arc, Mutex};
 use std::thread::{self, JoinHandle};
 use std::time::{Duration, Instant};
@@ -68,7 +69,7 @@ impl Member {
 
     /// The same, that waits so long for blocks before it answers nothing.
     fn waiting(folder: &Path, patience: Duration) -> Member {
-        let (handle, requests) = ChainHandle::new();
+        let (handle, requests) = ChainHandle::new(4);
         let network = Arc::new(Remembered::default());
         let inbox = Arc::new(Inbox::new(4));
         let metrics = Arc::new(Metrics::new().unwrap());
@@ -110,6 +111,13 @@ impl Member {
 
     fn ask(&self, request: Request) {
         self.handle.ask(request).unwrap();
+    }
+
+    /// Member 1 sends a block.
+    fn hear(&self, block: &Block) {
+        let bytes = Block::bytes(block.id.view, block.parent, &block.contents);
+        let size = bytes.len();
+        assert!(self.handle.hear(1, Frame::Block(bytes), size));
     }
 
     fn answer(&self) -> Event {
@@ -168,11 +176,6 @@ fn proposal(block: &Block) -> Proposal {
     }
 }
 
-fn sent(block: &Block) -> Request {
-    let bytes = Block::bytes(block.id.view, block.parent, &block.contents);
-    Request::Frame(1, Frame::Block(bytes))
-}
-
 fn verify(number: u64, block: &Block) -> Request {
     Request::Verify(number, context(block), proposal(block))
 }
@@ -189,13 +192,13 @@ fn a_check_waits_for_blocks_that_are_asked_for_by_hash() {
         above: 0,
     };
     assert_eq!(wanted, (Some(1), ask));
-    member.ask(sent(&chain[1]));
+    member.hear(&chain[1]);
     let wanted = until("its parent is asked for", || {
         let mut all = member.network.taken().into_iter();
         all.find(|(_, frame)| matches!(frame, Frame::AskBlocks { payload, .. } if *payload == chain[0].id.payload))
     });
     assert!(wanted.0.is_some());
-    member.ask(sent(&chain[0]));
+    member.hear(&chain[0]);
     let (request, answer) = (7, Some(true));
     assert_eq!(member.answer(), Event::Checked { request, answer });
     member.close();
@@ -211,7 +214,7 @@ fn no_answer_is_given_where_blocks_do_not_come_and_no_to_what_is_not_as_it_was_s
     assert_eq!(member.answer(), Event::Checked { request: 1, answer });
     // Behind another parent than the proposal says.
     let elsewhere = block(2, chain[0].id, vec![0]);
-    member.ask(sent(&elsewhere));
+    member.hear(&elsewhere);
     let mut said = context(&elsewhere);
     (said.parent, said.parent_payload) = (0, [0; 32]);
     member.ask(Request::Verify(2, said, proposal(&elsewhere)));
@@ -219,12 +222,12 @@ fn no_answer_is_given_where_blocks_do_not_come_and_no_to_what_is_not_as_it_was_s
     assert_eq!(member.answer(), Event::Checked { request: 2, answer });
     // What the application finds bad.
     let bad = block(1, BlockId::GENESIS, vec![9]);
-    member.ask(sent(&bad));
+    member.hear(&bad);
     member.ask(verify(3, &bad));
     assert_eq!(member.answer(), Event::Checked { request: 3, answer });
     // More than a block may hold.
     let long = block(1, BlockId::GENESIS, vec![0; (1 << 20) + 1]);
-    member.ask(sent(&long));
+    member.hear(&long);
     member.ask(verify(4, &long));
     assert_eq!(member.answer(), Event::Checked { request: 4, answer });
     member.close();
@@ -238,7 +241,7 @@ fn a_verdict_waits_for_the_block_however_long_it_takes() {
     member.ask(Request::Certify(proposal(&chain[0])));
     thread::sleep(Duration::from_millis(400));
     assert!(member.inbox.take(Some(Instant::now()), 1).is_empty());
-    member.ask(sent(&chain[0]));
+    member.hear(&chain[0]);
     let (view, good) = (1, true);
     assert_eq!(member.answer(), Event::Verdict { view, good });
     member.close();
@@ -251,7 +254,7 @@ fn what_an_earlier_node_asked_is_answered_no_more() {
     let chain = blocks(1);
     member.ask(verify(1, &chain[0]));
     member.ask(Request::Opened(2));
-    member.ask(sent(&chain[0]));
+    member.hear(&chain[0]);
     member.ask(verify(2, &chain[0]));
     let answer = member.inbox.take(None, 9);
     let [Input::Answer(2, Event::Checked { request: 2, .. })] = &answer[..] else {
@@ -271,7 +274,7 @@ fn finalize(folder: &TempDir, chain: &[Block], order: &[usize]) -> Vec<String> {
             let mut all = member.network.taken().into_iter();
             all.find(|(_, frame)| matches!(frame, Frame::AskBlocks { payload: asked, .. } if *asked == payload))
         });
-        member.ask(sent(&chain[*place]));
+        member.hear(&chain[*place]);
     }
     let told = member.final_views(chain.len());
     member.close();
@@ -292,10 +295,28 @@ fn final_blocks_are_carried_out_once_each_ancestors_first_and_again_behind_a_sna
     member.ask(Request::Finalized(proposal(&chain[5])));
     member.ask(Request::Finalized(proposal(&chain[2])));
     let next = block(7, chain[5].id, vec![0]);
-    member.ask(sent(&next));
+    member.hear(&next);
     member.ask(Request::Finalized(proposal(&next)));
     assert_eq!(member.final_views(4), ["at 4", "5", "6", "7"]);
     member.close();
+}
+
+#[test]
+fn votes_do_not_wait_for_a_snapshot_that_is_being_written() {
+    let folder = tempfile::tempdir().unwrap();
+    // Whoever opens this to write waits until somebody opens it to read, and nobody does.
+    let made = Command::new("mkfifo")
+        .arg(folder.path().join("snapshot.new"))
+        .status();
+    assert!(made.unwrap().success());
+    let chain = blocks(6);
+    let member = Member::open(folder.path());
+    chain.iter().for_each(|block| member.hear(block));
+    member.ask(Request::Finalized(proposal(&chain[4])));
+    assert_eq!(member.final_views(5), ["1", "2", "3", "4", "5"]);
+    member.ask(Request::Certify(proposal(&chain[5])));
+    let (view, good) = (6, true);
+    assert_eq!(member.answer(), Event::Verdict { view, good });
 }
 
 #[test]
@@ -303,7 +324,7 @@ fn a_block_is_on_the_disk_before_it_is_voted_for() {
     let folder = tempfile::tempdir().unwrap();
     let member = Member::open(folder.path());
     let chain = blocks(1);
-    member.ask(sent(&chain[0]));
+    member.hear(&chain[0]);
     member.ask(verify(1, &chain[0]));
     let answer = Some(true);
     assert_eq!(member.answer(), Event::Checked { request: 1, answer });
@@ -324,6 +345,27 @@ fn a_block_is_on_the_disk_before_it_is_voted_for() {
     assert!(file.windows(32).any(|part| part == payload));
     assert_eq!(member.syncs(), 2);
     member.close();
+}
+
+#[test]
+fn a_peer_that_floods_takes_no_room_of_the_node_or_of_another() {
+    let (handle, requests) = ChainHandle::new(4);
+    let lacks = || Frame::Lacks([0; 32]);
+    let flood = (0..100_000).filter(|_| handle.hear(1, lacks(), 33));
+    let small = flood.count();
+    // Of long ones still fewer, but one always.
+    let flood = (0..100).filter(|_| handle.hear(2, lacks(), 4 << 20));
+    let long = flood.count();
+    assert!(
+        (2..10).contains(&long) && long < small && small < 1000,
+        "{long} {small}"
+    );
+    assert!(handle.hear(3, lacks(), 33 << 20));
+    (0..4000).for_each(|_| handle.ask(Request::Wake).unwrap());
+    // What asks to be looked at again and again waits once.
+    let wake = handle.wake();
+    (0..100_000).for_each(|_| wake.wake());
+    assert_eq!(requests.try_iter().count(), small + long + 1 + 4000 + 1);
 }
 
 #[test]

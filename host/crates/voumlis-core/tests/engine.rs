@@ -84,7 +84,7 @@ impl Running {
     ) -> Running {
         let sealer = sealers().remove(0);
         let (inbox, network) = (Arc::new(Inbox::new(4)), Arc::new(network));
-        let (chain, requests) = ChainHandle::new();
+        let (chain, requests) = ChainHandle::new(4);
         let metrics = Arc::new(Metrics::new().unwrap());
         let path = folder.join("signatures");
         let signatures = SignatureFile::open(&path, &sealer.signatures, |_, _| true).unwrap();
@@ -97,7 +97,7 @@ impl Running {
             network: network.clone(),
             current: Arc::new(Current::default()),
             signatures,
-            reports: ReportLog::open(&folder.join("reports")).unwrap(),
+            reports: ReportLog::open(&folder.join("reports"), 1 << 30).unwrap(),
             metrics: metrics.clone(),
             status: Arc::new(Status::default()),
             settings: EngineSettings { reopen_after },
@@ -245,6 +245,30 @@ fn signatures_are_on_the_disk_before_what_rests_on_them_leaves() {
 }
 
 #[test]
+fn the_signatures_of_what_the_node_refuses_are_not_kept_but_those_of_evidence() {
+    let folder = tempfile::tempdir().unwrap();
+    let network = Remembered::default();
+    let member = Running::new(folder.path(), LONG, network, |_, event| match event {
+        // Of a view far away, a contradiction that is told of, and what came before.
+        Event::Packet { sender, .. } => Reply {
+            refused: [0, 6, 10, 11][*sender as usize],
+            actions: [vec![], vec![], vec![Action::Block(2)], vec![]][*sender as usize].clone(),
+        },
+        _ => reply(Vec::new()),
+    });
+    let votes = [(1, 500), (1, 501), (2, 1), (3, 1)].map(|(signer, view)| nullify(view, signer));
+    for (count, vote) in (1..).zip(&votes) {
+        let signer = vote.attestation.signer;
+        member.packet(signer, vote.bytes(), vec![signature(vote)]);
+        member.told(count);
+    }
+    let signatures = member.sealer.signatures.clone();
+    member.stop();
+    let is_kept = votes.map(|vote| signatures.get(&vote.attestation).is_some());
+    assert_eq!(is_kept, [false, false, true, true]);
+}
+
+#[test]
 fn a_vote_is_signed_where_the_node_hands_it_out_and_a_certificate_without_signatures_stays() {
     let folder = tempfile::tempdir().unwrap();
     let send = |channel, bytes| Action::Send {
@@ -299,8 +323,9 @@ fn moments_do_not_fall_and_come_when_the_node_wants_to_be_woken() {
         (moments.len() > 5).then_some(moments)
     });
     assert!(moments.is_sorted(), "{moments:?}");
-    let gaps = moments.windows(2).map(|pair| pair[1] - pair[0]);
-    assert!(gaps.skip(1).all(|gap| gap >= 30), "{moments:?}");
+    // One may have been told with the packet, whenever that came.
+    let short = moments.windows(2).filter(|pair| pair[1] - pair[0] < 30);
+    assert!(short.count() <= 1, "{moments:?}");
     assert_eq!(
         member
             .metrics
@@ -333,6 +358,39 @@ fn the_time_is_told_with_what_comes() {
         panic!("{events:?}");
     };
     assert!(moment >= woken + 30, "{moment} behind {woken}");
+    member.stop();
+}
+
+#[test]
+fn a_vote_that_came_too_early_is_handed_in_again_where_a_view_is_entered() {
+    let folder = tempfile::tempdir().unwrap();
+    let network = Remembered::default();
+    let member = Running::new(folder.path(), LONG, network, |_, event| match event {
+        // The leader is ahead: the node refuses what it says of views apart from its own.
+        Event::Packet { sender: 1, .. } => Reply {
+            refused: 6,
+            actions: Vec::new(),
+        },
+        // Then it enters view 5.
+        Event::Packet { sender: 3, .. } => reply(vec![Action::Report(nullification(4, 1))]),
+        _ => reply(Vec::new()),
+    });
+    // One by one, and how many the node was told by then.
+    for (sender, view, count) in [(1, 12, 1), (1, 40, 2), (2, 1, 3), (3, 1, 5), (2, 2, 6)] {
+        let vote = nullify(view, sender);
+        member.packet(sender, vote.bytes(), vec![signature(&vote)]);
+        member.told(count);
+    }
+    let told: Vec<_> = member.told(6).into_iter().map(|(_, event)| event).collect();
+    let expected = [(1, 12), (1, 40), (2, 1), (3, 1), (1, 12), (2, 2)].map(|(sender, view)| {
+        let (channel, bytes) = (Channel::Votes, nullify(view, sender).bytes());
+        Event::Packet {
+            sender,
+            channel,
+            bytes,
+        }
+    });
+    assert_eq!(told, expected);
     member.stop();
 }
 

@@ -4,6 +4,7 @@
 use anyhow::{Context, Result};
 use std::fs::{self, File};
 use std::io::{ErrorKind, Write};
+use std::os::unix::fs::OpenOptionsExt;
 use std::path::Path;
 use std::sync::{Arc, Mutex};
 use tracing::{error, warn};
@@ -33,7 +34,7 @@ impl BlockList {
             status.change(|state| state.blocked.insert(member, why.to_owned()));
         }
         let mut options = File::options();
-        let file = options.create(true).append(true).open(path);
+        let file = options.create(true).append(true).mode(0o600).open(path);
         Ok(BlockList {
             status,
             file: Mutex::new(file.with_context(named)?),

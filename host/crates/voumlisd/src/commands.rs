@@ -5,12 +5,17 @@ use crate::settings::{Limits, Members, Place, Settings, Times};
 use anyhow::{Context, Result, bail, ensure};
 use clap::{Parser, Subcommand};
 use std::fs;
-use std::net::{IpAddr, SocketAddr};
+use std::net::{IpAddr, Ipv4Addr, SocketAddr};
+use std::os::unix::fs::DirBuilderExt;
 use std::path::{Path, PathBuf};
 use std::process::ExitCode;
+use tracing::{Level, warn};
+use tracing_subscriber::filter::Targets;
+use tracing_subscriber::layer::{Layer as _, SubscriberExt as _};
+use tracing_subscriber::{fmt, util::SubscriberInitExt as _};
 use voumlis_core::committee::{Committee, SecretKey};
 use voumlis_core::judge::{Judgement, judge};
-use voumlis_core::reports::{SignedReport, read_all};
+use voumlis_core::reports::{SignedReport, aside, read_all};
 
 /// One member of a committee, over a record on a disk.
 #[derive(Parser)]
@@ -34,7 +39,7 @@ enum Command {
         /// How many members.
         #[arg(long, default_value_t = 4)]
         members: u16,
-        /// The address of all of them.
+        /// The address at which all of them listen for their peers. HTTP, which has no key, is at the loopback.
         #[arg(long, default_value = "127.0.0.1")]
         host: IpAddr,
         /// The first port: of each member one for peers, and behind all of these one for HTTP.
@@ -80,11 +85,7 @@ enum Command {
 /// Does what the words of the command line say, with this service for `run`.
 pub fn command_line(make: impl FnOnce(&Settings) -> Result<Service>) -> ExitCode {
     let words = Words::parse();
-    tracing_subscriber::fmt()
-        .with_writer(std::io::stderr)
-        .with_ansi(false)
-        .with_max_level(level())
-        .init();
+    log_to_standard_error();
     match carry_out(words.command, make) {
         Ok(code) => code,
         Err(error) => {
@@ -94,12 +95,24 @@ pub fn command_line(make: impl FnOnce(&Settings) -> Result<Service>) -> ExitCode
     }
 }
 
-/// The level of logs that the environment names: `VOUMLIS_LOG` is error, warn, info, debug or trace.
-fn level() -> tracing::Level {
+/// Libraries of which nothing below the level info is logged: what they tell of each request drowns all else.
+const TALKATIVE: [&str; 2] = ["hyper", "rustls"];
+
+/// Logs at the level that `VOUMLIS_LOG` names: error, warn, info, debug or trace.
+fn log_to_standard_error() {
     let named = std::env::var("VOUMLIS_LOG").ok();
-    named
-        .and_then(|name| name.parse().ok())
-        .unwrap_or(tracing::Level::INFO)
+    let level = named.as_deref().map_or(Ok(Level::INFO), str::parse);
+    let is_known = level.is_ok();
+    let level = level.unwrap_or(Level::INFO);
+    let limits = TALKATIVE.map(|name| (name, level.min(Level::INFO)));
+    let targets = Targets::new().with_default(level).with_targets(limits);
+    let lines = fmt::layer().with_writer(std::io::stderr).with_ansi(false);
+    tracing_subscriber::registry()
+        .with(lines.with_filter(targets))
+        .init();
+    if !is_known {
+        warn!(?named, "VOUMLIS_LOG names no level: it is taken for info");
+    }
 }
 
 fn carry_out(
@@ -134,7 +147,11 @@ fn carry_out(
         }
         Command::Audit { folders } => {
             let settings = Settings::read(&folders[0])?;
-            let files: Vec<PathBuf> = folders.iter().map(|one| one.join("reports")).collect();
+            let logs = folders.iter().map(|one| one.join("reports"));
+            let files: Vec<PathBuf> = logs
+                .flat_map(|log| [Some(aside(&log)).filter(|old| old.exists()), Some(log)])
+                .flatten()
+                .collect();
             return judged(&settings.committee()?, &files, &settings.program);
         }
     }
@@ -158,6 +175,15 @@ struct Ports {
 impl Ports {
     fn at(&self, place: u32) -> Result<SocketAddr> {
         self.behind(self.first, place)
+    }
+
+    /// Where this place's HTTP is: nobody but this machine reaches it until the settings say otherwise.
+    fn http(&self, place: u32) -> Result<SocketAddr> {
+        let mut address = self.at(place)?;
+        if !self.host.is_loopback() {
+            address.set_ip(Ipv4Addr::LOCALHOST.into());
+        }
+        Ok(address)
     }
 
     /// Where the application of this member answers, if it is one in another process.
@@ -186,7 +212,7 @@ fn init(folder: &Path, members: u16, ports: &Ports, program: &Path, library: boo
     let mut places = Vec::new();
     for member in 0..members {
         let own = folder.join(format!("member-{member}"));
-        fs::create_dir(&own)?;
+        fs::DirBuilder::new().mode(0o700).create(&own)?;
         let key = SecretKey::generate()?;
         key.write(&own.join("key"))?;
         places.push(Place {
@@ -198,7 +224,7 @@ fn init(folder: &Path, members: u16, ports: &Ports, program: &Path, library: boo
         let settings = Settings {
             key: "key".into(),
             listen: place.address,
-            http: ports.at(u32::from(members) + member as u32)?,
+            http: ports.http(u32::from(members) + member as u32)?,
             program: program.clone(),
             library,
             application: ports.application(member as u32)?,

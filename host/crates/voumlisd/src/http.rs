@@ -9,17 +9,18 @@ use serde_json::{Value, json};
 use std::convert::Infallible;
 use std::fs;
 use std::future::Future;
+use std::io;
 use std::path::PathBuf;
 use std::pin::Pin;
 use std::sync::Arc;
+use std::task::{Context, Poll};
 use std::time::{Duration, Instant};
-use tokio::net::TcpListener;
+use tokio::io::{AsyncRead, AsyncWrite, ReadBuf};
+use tokio::net::{TcpListener, TcpStream};
 use tokio::sync::Semaphore;
+use tokio::time::{Sleep, sleep};
 use tracing::debug;
 use voumlis_core::metrics::{Metrics, Status};
-
-/// How long a client may take for the head of a request.
-const HEAD: Duration = Duration::from_secs(10);
 
 /// An answer that is on its way.
 pub type Answer = Pin<Box<dyn Future<Output = Response<Body>> + Send>>;
@@ -120,10 +121,72 @@ pub fn told(status: StatusCode, kind: &'static str, text: impl Into<Body>) -> Re
     response
 }
 
-/// Answers on this address, at most so many connections at a time, for ever.
+/// A connection that ends where nothing was read or written for so long: who is silent, or takes nothing in, keeps nobody's place.
+struct Watched {
+    stream: TcpStream,
+    silence: Duration,
+    end: Pin<Box<Sleep>>,
+}
+
+impl Watched {
+    fn new(stream: TcpStream, silence: Duration) -> Watched {
+        Watched {
+            stream,
+            silence,
+            end: Box::pin(sleep(silence)),
+        }
+    }
+
+    /// What came of reading or writing, or that it took too long.
+    fn watch<T>(
+        mut self: Pin<&mut Self>,
+        context: &mut Context<'_>,
+        go_on: impl FnOnce(Pin<&mut TcpStream>, &mut Context<'_>) -> Poll<io::Result<T>>,
+    ) -> Poll<io::Result<T>> {
+        let gone = go_on(Pin::new(&mut self.stream), context);
+        if gone.is_ready() {
+            let end = tokio::time::Instant::now() + self.silence;
+            self.end.as_mut().reset(end);
+            return gone;
+        }
+        let ended = self.end.as_mut().poll(context);
+        ended.map(|()| Err(io::ErrorKind::TimedOut.into()))
+    }
+}
+
+impl AsyncRead for Watched {
+    fn poll_read(
+        self: Pin<&mut Self>,
+        context: &mut Context<'_>,
+        buffer: &mut ReadBuf<'_>,
+    ) -> Poll<io::Result<()>> {
+        self.watch(context, |stream, context| stream.poll_read(context, buffer))
+    }
+}
+
+impl AsyncWrite for Watched {
+    fn poll_write(
+        self: Pin<&mut Self>,
+        context: &mut Context<'_>,
+        bytes: &[u8],
+    ) -> Poll<io::Result<usize>> {
+        self.watch(context, |stream, context| stream.poll_write(context, bytes))
+    }
+
+    fn poll_flush(self: Pin<&mut Self>, context: &mut Context<'_>) -> Poll<io::Result<()>> {
+        self.watch(context, |stream, context| stream.poll_flush(context))
+    }
+
+    fn poll_shutdown(self: Pin<&mut Self>, context: &mut Context<'_>) -> Poll<io::Result<()>> {
+        self.watch(context, |stream, context| stream.poll_shutdown(context))
+    }
+}
+
+/// Answers on this address, at most so many connections at a time, for ever. One that is silent for so long ends.
 pub async fn serve(
     listener: TcpListener,
     connections: usize,
+    silence: Duration,
     member: Told,
     routes: Option<Arc<dyn Routes>>,
 ) {
@@ -145,7 +208,8 @@ pub async fn serve(
                 async move { Ok::<_, Infallible>(answer.await) }
             });
             let mut http = Http::new();
-            http.http1_only(true).http1_header_read_timeout(HEAD);
+            http.http1_only(true);
+            let stream = Watched::new(stream, silence);
             if let Err(told) = http.serve_connection(stream, service).await {
                 debug!(%told, "a connection of HTTP ended");
             }

@@ -25,12 +25,12 @@ use std::sync::{Arc, Mutex};
 use std::time::{Duration, Instant};
 use tokio::io::{AsyncRead, AsyncReadExt, AsyncWrite, AsyncWriteExt, BufReader, BufWriter, split};
 use tokio::net::{TcpListener, TcpStream};
-use tokio::sync::Semaphore;
+use tokio::sync::{Notify, Semaphore};
 use tokio::time::{sleep, timeout};
 use tokio_rustls::{TlsAcceptor, TlsConnector};
 use tracing::{debug, info, warn};
 use voumlis_core::allowance::Allowance;
-use voumlis_core::chain::{ChainHandle, Request};
+use voumlis_core::chain::ChainHandle;
 use voumlis_core::committee::SecretKey;
 use voumlis_core::envelope::{Opened, Refused, Sealed, Sealer};
 use voumlis_core::frame::{Frame, LONGEST_FRAME};
@@ -73,11 +73,21 @@ pub struct Links {
 }
 
 /// What came of a peer's process.
-#[derive(Clone, Copy, Default)]
+#[derive(Default)]
 struct Heard {
     run: u64,
     last: u64,
     connection: u64,
+    /// Told when the peer has a newer connection.
+    newer: Arc<Notify>,
+}
+
+/// One connection of a peer that is heard from.
+struct Hearing {
+    peer: u32,
+    from: SocketAddr,
+    connection: u64,
+    newer: Arc<Notify>,
 }
 
 /// What links are made of.
@@ -352,8 +362,14 @@ impl Links {
     ) {
         let peer = greeted.peer;
         let connection = self.connections.fetch_add(1, Ordering::Relaxed) + 1;
-        let last = self.begin_hearing(&greeted, connection);
-        let ended = self.hear(peer, connection, last, from, stream).await;
+        let (last, newer) = self.begin_hearing(&greeted, connection);
+        let hearing = Hearing {
+            peer,
+            from,
+            connection,
+            newer,
+        };
+        let ended = self.hear(&hearing, last, stream).await;
         self.end_hearing(peer, connection);
         if let Err(told) = ended {
             debug!(
@@ -364,20 +380,20 @@ impl Links {
         }
     }
 
-    fn begin_hearing(&self, greeted: &Greeted, connection: u64) -> u64 {
+    /// The last frame that came of this run, and what tells when the peer has a newer connection. The one before is told now.
+    fn begin_hearing(&self, greeted: &Greeted, connection: u64) -> (u64, Arc<Notify>) {
         let mut heard = self.heard.lock().expect("no thread failed with it");
         let entry = heard.entry(greeted.peer).or_default();
+        entry.newer.notify_one();
         if entry.run != greeted.run {
-            *entry = Heard {
-                run: greeted.run,
-                ..Heard::default()
-            };
+            entry.run = greeted.run;
+            entry.last = 0;
         }
-        // A connection before this one ends with its next frame.
         entry.connection = connection;
-        let last = entry.last;
+        entry.newer = Arc::default();
+        let (last, newer) = (entry.last, entry.newer.clone());
         self.count_hearing(&heard);
-        last
+        (last, newer)
     }
 
     fn end_hearing(&self, peer: u32, connection: u64) {
@@ -411,12 +427,11 @@ impl Links {
 
     async fn hear(
         &self,
-        peer: u32,
-        connection: u64,
+        hearing: &Hearing,
         last: u64,
-        from: SocketAddr,
         stream: tokio_rustls::server::TlsStream<TcpStream>,
     ) -> Result<()> {
+        let (peer, from) = (hearing.peer, hearing.from);
         let (reader, writer) = split(stream);
         let (mut reader, mut writer) = (
             BufReader::new(reader),
@@ -427,15 +442,20 @@ impl Links {
         writer.flush().await?;
         let mut taken = last;
         loop {
-            let read = timeout(SILENCE, self.read_frame(peer, from, &mut reader)).await;
-            if let Some((number, bytes)) = read.context("it says nothing")?? {
+            let reading = timeout(SILENCE, self.read_frame(peer, from, &mut reader));
+            let read = tokio::select! {
+                read = reading => read.context("it says nothing")??,
+                // What was taken is put in first, so this is looked at between frames alone.
+                () = hearing.newer.notified() => bail!("the peer has a newer connection"),
+            };
+            if let Some((number, bytes)) = read {
                 let wait = self.wait_for(peer, &bytes);
                 if !wait.is_zero() {
                     // Nothing more is read from it, so what it sends waits at the peer. It hears first what came until now.
                     timeout(SILENCE, writer.flush()).await.context("slow")??;
                     sleep(wait).await;
                 }
-                if self.is_next(peer, connection, number)? {
+                if self.is_next(peer, hearing.connection, number)? {
                     self.take(peer, from, bytes).await?;
                 }
                 taken = taken.max(number);
@@ -490,7 +510,7 @@ impl Links {
         match Frame::read(&bytes) {
             Ok(Frame::Packet(sealed)) => self.take_packet(peer, from, sealed).await,
             Ok(frame) => {
-                if !self.chain.offer(Request::Frame(peer, frame)) {
+                if !self.chain.hear(peer, frame, bytes.len()) {
                     self.metrics.dropped.with_label_values(&["chain"]).inc();
                 }
                 Ok(())

@@ -8,6 +8,7 @@ use anyhow::{Context, Result, bail, ensure};
 use application::Application;
 use ring::rand::{SecureRandom, SystemRandom};
 use std::fs::{File, TryLockError};
+use std::os::unix::fs::OpenOptionsExt;
 use std::path::{Path, PathBuf};
 use std::sync::Arc;
 use std::thread::{self, JoinHandle};
@@ -69,7 +70,9 @@ struct Lock(#[allow(dead_code, reason = "it is held, not used")] File);
 
 fn lock(folder: &Path) -> Result<Lock> {
     let path = folder.join("lock");
-    let file = File::create(&path).with_context(|| path.display().to_string())?;
+    let mut options = File::options();
+    let file = options.write(true).create(true).mode(0o600).open(&path);
+    let file = file.with_context(|| path.display().to_string())?;
     match file.try_lock() {
         Ok(()) => Ok(Lock(file)),
         Err(TryLockError::WouldBlock) => bail!(
@@ -141,12 +144,23 @@ fn spawn(
     })?)
 }
 
+/// A thread or task that panics takes the process with it: what they share may be broken, and a member without one of its parts would
+/// stand there as if it worked. For its record this is a crash as any other, and whatever runs it starts it again.
+fn end_where_a_part_fails() {
+    let say = std::panic::take_hook();
+    std::panic::set_hook(Box::new(move |panic| {
+        say(panic);
+        std::process::abort();
+    }));
+}
+
 /// Runs the member of this folder until a signal says to stop, or it can't go on.
 ///
 /// # Errors
 ///
 /// Where it can't be started, or its node or a file failed.
 pub fn run(folder: &Path, make: impl FnOnce(&Settings) -> Result<Service>) -> Result<()> {
+    end_where_a_part_fails();
     let settings = Settings::read(folder)?;
     let _lock = lock(folder)?;
     let service = make(&settings)?;
@@ -167,7 +181,7 @@ async fn work(folder: &Path, settings: Settings, service: Service) -> Result<()>
     let status = Arc::new(Status::default());
     let inbox = Arc::new(Inbox::new(committee.size()));
     let current = Arc::new(Current::default());
-    let (chain, requests) = ChainHandle::new();
+    let (chain, requests) = ChainHandle::new(committee.size());
     let verify = sealer.committee.clone();
     let signatures = SignatureFile::open(
         &folder.join("signatures"),
@@ -210,7 +224,7 @@ async fn work(folder: &Path, settings: Settings, service: Service) -> Result<()>
         network,
         current,
         signatures,
-        reports: ReportLog::open(&folder.join("reports"))?,
+        reports: ReportLog::open(&folder.join("reports"), settings.limits.report_bytes)?,
         metrics: metrics.clone(),
         status: status.clone(),
         settings: settings.engine(),
@@ -231,7 +245,8 @@ async fn work(folder: &Path, settings: Settings, service: Service) -> Result<()>
     };
     let http = bind(settings.http).await?;
     let room = settings.limits.http_connections;
-    tokio::spawn(http::serve(http, room, told, service.routes));
+    let silence = Duration::from_millis(settings.times.http_silence);
+    tokio::spawn(http::serve(http, room, silence, told, service.routes));
     info!(member = me, http = %settings.http, "started");
     settle(&links, committee.size()).await;
 

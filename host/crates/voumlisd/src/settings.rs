@@ -6,9 +6,11 @@ use std::fs;
 use std::net::SocketAddr;
 use std::path::{Path, PathBuf};
 use std::time::Duration;
+use tokio::sync::Semaphore;
 use voumlis_core::chain::ChainSettings;
 use voumlis_core::committee::{Committee, PublicKey};
 use voumlis_core::engine::EngineSettings;
+use voumlis_core::frame::LONGEST_FRAME;
 
 /// The name of a member's settings in its folder.
 pub const SETTINGS: &str = "settings.toml";
@@ -66,6 +68,8 @@ pub struct Limits {
     pub block_bytes: usize,
     /// A snapshot is taken with the first final block of each run of so many views.
     pub snapshot_views: u64,
+    /// The most bytes of the log of reports: then it is put aside, in place of the one that was before.
+    pub report_bytes: u64,
     /// The most bytes that wait for one peer.
     pub queue_bytes: usize,
     /// Bytes that a peer may send at once, and each second.
@@ -84,6 +88,7 @@ impl Default for Limits {
         Limits {
             block_bytes: chain.longest_contents,
             snapshot_views: chain.snapshot_views,
+            report_bytes: 1 << 30,
             queue_bytes: 16 << 20,
             peer_bytes: (64e6, 32e6),
             peer_asks: (500.0, 100.0),
@@ -105,6 +110,8 @@ pub struct Times {
     pub reopen_after: u64,
     /// How long a connection may take until its key is shown and it has said of which committee it is.
     pub greeting: u64,
+    /// A connection of HTTP over which nothing goes for so long is closed: longer than any answer takes.
+    pub http_silence: u64,
 }
 
 impl Default for Times {
@@ -116,7 +123,68 @@ impl Default for Times {
             patience: milliseconds(chain.patience),
             reopen_after: milliseconds(EngineSettings::default().reopen_after),
             greeting: 5_000,
+            http_silence: 90_000,
         }
+    }
+}
+
+/// The most of a time: a day.
+const LONGEST: u64 = 24 * 60 * 60 * 1000;
+
+impl Times {
+    /// Whether the loops can wait so long.
+    fn check(&self) -> Result<()> {
+        ensure!(
+            self.idle < 1000,
+            "times.idle has to be below 1000, at which the others give the leader up"
+        );
+        for (name, time) in [
+            ("patience", self.patience),
+            ("reopen_after", self.reopen_after),
+            ("greeting", self.greeting),
+            ("http_silence", self.http_silence),
+        ] {
+            ensure!(
+                (1..=LONGEST).contains(&time),
+                "times.{name} has to be from 1 to {LONGEST}"
+            );
+        }
+        Ok(())
+    }
+}
+
+impl Limits {
+    /// Whether a member can work within them.
+    fn check(&self) -> Result<()> {
+        ensure!(
+            self.block_bytes < LONGEST_FRAME - 1024,
+            "limits.block_bytes is more than a frame holds"
+        );
+        for (name, count) in [
+            ("snapshot_views", self.snapshot_views),
+            ("report_bytes", self.report_bytes),
+            ("queue_bytes", self.queue_bytes as u64),
+            ("http_connections", self.http_connections as u64),
+            ("strangers", self.strangers as u64),
+        ] {
+            ensure!(count > 0, "limits.{name} has to be above 0");
+        }
+        for (name, (at_once, a_second)) in [
+            ("peer_bytes", self.peer_bytes),
+            ("peer_asks", self.peer_asks),
+        ] {
+            let is_enough = |count: f64| count.is_finite() && count >= 1.0;
+            ensure!(
+                is_enough(at_once) && is_enough(a_second),
+                "limits.{name} has to be two numbers from 1 on"
+            );
+        }
+        let most = Semaphore::MAX_PERMITS;
+        ensure!(
+            self.http_connections.max(self.strangers) <= most,
+            "limits.http_connections and limits.strangers are at most {most}"
+        );
+        Ok(())
     }
 }
 
@@ -167,15 +235,8 @@ impl Settings {
         let mut settings: Settings = read(&folder.join(SETTINGS))?;
         settings.key = folder.join(&settings.key);
         settings.program = folder.join(&settings.program);
-        ensure!(
-            settings.times.idle < 1000,
-            "times.idle has to be below 1000, at which the others give the leader up"
-        );
-        ensure!(
-            settings.limits.block_bytes + 1024 < voumlis_core::frame::LONGEST_FRAME,
-            "limits.block_bytes is more than a frame holds"
-        );
-        ensure!(settings.limits.snapshot_views > 0, "limits.snapshot_views");
+        settings.times.check()?;
+        settings.limits.check()?;
         Ok(settings)
     }
 
@@ -212,6 +273,51 @@ impl Settings {
     pub fn engine(&self) -> EngineSettings {
         EngineSettings {
             reopen_after: Duration::from_millis(self.times.reopen_after),
+        }
+    }
+}
+
+#[cfg(test)]
+mod tests {
+    use super::*;
+
+    /// What is said of settings that have this behind those that have to be there.
+    fn read_with(more: &str) -> Result<Settings, String> {
+        let folder = tempfile::tempdir().unwrap();
+        let text = format!(
+            "key = \"key\"\nlisten = \"127.0.0.1:7100\"\nhttp = \"127.0.0.1:7101\"\nprogram = \"simplex\"\n{more}\n\
+             [[members]]\nkey = \"{}\"\naddress = \"127.0.0.1:7100\"\n",
+            "0".repeat(64)
+        );
+        fs::write(folder.path().join(SETTINGS), text).unwrap();
+        Settings::read(folder.path()).map_err(|told| format!("{told:#}"))
+    }
+
+    #[test]
+    fn settings_that_no_member_can_work_with_are_refused_by_name() {
+        let read = read_with("[limits]\npeer_asks = [10, 1]\n[times]\nidle = 50").unwrap();
+        assert_eq!((read.limits.peer_asks, read.times.idle), ((10.0, 1.0), 50));
+        for (table, name, value) in [
+            ("times", "idle", "1000"),
+            ("times", "patience", "0"),
+            ("times", "reopen_after", "0"),
+            ("times", "reopen_after", "9000000000000000000"),
+            ("times", "greeting", "0"),
+            ("times", "http_silence", "0"),
+            ("times", "unknown", "1"),
+            ("limits", "block_bytes", "9000000000000000000"),
+            ("limits", "snapshot_views", "0"),
+            ("limits", "queue_bytes", "0"),
+            ("limits", "http_connections", "0"),
+            ("limits", "http_connections", "9000000000000000000"),
+            ("limits", "strangers", "0"),
+            ("limits", "peer_bytes", "[64e6, 0.0]"),
+            ("limits", "peer_bytes", "[64e6, 1e-300]"),
+            ("limits", "peer_asks", "[-1.0, 100.0]"),
+            ("limits", "peer_asks", "[nan, inf]"),
+        ] {
+            let told = read_with(&format!("[{table}]\n{name} = {value}")).unwrap_err();
+            assert!(told.contains(name), "{name} = {value}: {told}");
         }
     }
 }

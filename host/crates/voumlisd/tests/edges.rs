@@ -249,9 +249,14 @@ fn frames_are_taken_once_and_told_again_behind_a_reconnection() {
         assert_eq!(again.read_u64().await.unwrap(), 2);
         send(&mut again, 3, &ask).await;
         assert_eq!(again.read_u64().await.unwrap(), 3);
-        // Of two connections of one peer the newer counts.
-        send(&mut stream, 4, &ask).await;
-        assert!(is_ended(&mut stream).await);
+        // Of two connections of one peer the newer counts: the older ends, though it doesn't fall silent.
+        let signs_of_life = async {
+            while stream.write_u32(0).await.is_ok() && stream.flush().await.is_ok() {
+                tokio::time::sleep(Duration::from_millis(200)).await;
+            }
+        };
+        let ended = tokio::time::timeout(patience(), signs_of_life).await;
+        assert!(ended.is_ok(), "the older connection stays");
         // Another run begins anew.
         let mut other = dial(&keys, &key, 0, address).await.unwrap();
         assert_eq!(greet(&mut other, keys.hash(), 10).await.unwrap(), (run, 0));
@@ -312,6 +317,33 @@ fn a_peer_that_asks_much_waits_and_a_slow_reader_holds_up_nobody() {
     assert!(passed >= least, "{asked} asks were taken in {passed:?}");
     go_on(&mut committee);
     drop(slow);
+}
+
+#[test]
+fn connections_of_http_that_are_silent_are_closed_and_keep_nobodys_place() {
+    let mut committee = Committee::new(1, |settings| {
+        settings.limits.http_connections = 3;
+        settings.times.http_silence = 2_000;
+    });
+    committee.start(0);
+    let connect = || TcpStream::connect(committee.settings[0].http).ok();
+    let begun: [&[u8]; 3] = [b"", b"GET /status HT", b"POST /keys/a HTTP/1.1\r\nHost:"];
+    let silent = begun.map(|bytes| {
+        let mut stream = until("it listens", connect);
+        stream.write_all(bytes).unwrap();
+        stream
+    });
+    // There is room for three, so this one is answered once they are gone.
+    committee.reach(&[0], 1);
+    for mut stream in silent {
+        stream.set_read_timeout(Some(patience())).unwrap();
+        let mut rest = Vec::new();
+        // Closed or reset, but not left open.
+        match stream.read_to_end(&mut rest) {
+            Ok(_) => {}
+            Err(told) => assert_eq!(told.kind(), std::io::ErrorKind::ConnectionReset),
+        }
+    }
 }
 
 #[test]

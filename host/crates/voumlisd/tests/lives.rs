@@ -4,6 +4,7 @@ mod common;
 
 use common::{Committee, until};
 use std::os::unix::fs::PermissionsExt;
+use std::path::Path;
 use std::{fs, thread, time::Duration};
 
 #[test]
@@ -51,6 +52,52 @@ fn a_member_stops_cleanly_and_alone_has_its_folder() {
     assert_eq!(committee.nodes(0), 0);
     committee.start(0);
     committee.reach(&[0], there + 3);
+}
+
+#[test]
+fn ctrl_c_is_a_clean_stop_though_it_goes_to_all_processes_of_the_terminal() {
+    let mut committee = Committee::new(1, |_| {});
+    committee.start(0);
+    committee.reach(&[0], 3);
+    let ended = committee.interrupt(0);
+    assert!(ended.success(), "{ended} {}", committee.log(0));
+    let log = committee.log(0);
+    assert!(log.contains("stopped by SIGINT"), "{log}");
+    assert_eq!(committee.nodes(0), 0);
+}
+
+#[test]
+fn a_member_of_which_a_part_fails_ends() {
+    let mut committee = Committee::new(1, |_| {});
+    let binary = Path::new(env!("CARGO_BIN_EXE_voumlisd"));
+    committee.start_as(&binary.with_file_name("examples").join("failing"), 0);
+    until("it answers", || committee.get(0, "/status"));
+    assert_eq!(committee.get(0, "/fail"), None);
+    let ended = committee.ended(0);
+    assert!(!ended.success(), "{ended}");
+    let log = committee.log(0);
+    assert!(log.contains("it fails, as it was asked to"), "{log}");
+}
+
+#[test]
+fn what_a_member_writes_its_owner_alone_may_read() {
+    let mut committee = Committee::new(1, |settings| settings.limits.snapshot_views = 2);
+    let folder = committee.member(0);
+    let mode = |path: &Path| fs::metadata(path).unwrap().permissions().mode() & 0o777;
+    assert_eq!(mode(&folder), 0o700);
+    committee.start(0);
+    committee.reach(&[0], 6);
+    let names = [
+        "blocked",
+        "blocks",
+        "key",
+        "lock",
+        "reports",
+        "signatures",
+        "snapshot",
+    ];
+    let modes = names.map(|name| (name, mode(&folder.join(name))));
+    assert_eq!(modes, names.map(|name| (name, 0o600)));
 }
 
 #[test]

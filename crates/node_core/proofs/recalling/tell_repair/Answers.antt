@@ -24,6 +24,9 @@ returns-in-Ok g c = λ n s h rest room is k.
     let roomy = subst (λ (u : Round). HasRoom s.voter.length u.view) (ap artifact_round it ∙ of_certificate c.in-Certificate.certificate) room in
     certificate-found (repairing.Keeps s.voter.length c.update_repair.new.repair) f h x c.in-Certificate.certificate it (c.in-Ok.ensures.told s.voter.length (repair_of f h) k roomy)
 
+pub judge-requires : goal.judge-requires
+judge-requires g c = c.requires c.in-Verdict.round c.in-Verdict.ok (sym c.in_ok-duplicate.ensures ∙ (c.from.ensures ∙ ap said_artifact c.in-Verdict.is))
+
 pub returns : goal.returns
 returns g c = on_ok_weaker c.judge.result (λ told n s h rest room is k.
     let f = formats {S = g.row.S.Denot} {P = g.row.S-PublicKey.Denot} g.D.PartialEq.eq g.D.Write.spelling g.S.Signature.Write.spelling g.S.Certificate.Write.spelling g.D.Read.reading g.S.Signature.Read.reading g.S.Certificate.Read.reading n in

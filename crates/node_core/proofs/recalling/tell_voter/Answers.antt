@@ -8,6 +8,9 @@ use Rattle.voter_views.specs.Views.{recalls}
 use Rattle.node_core.specs.Saying.{said_artifact}
 use Rattle.node_core.specs.SaidRounds.{of_certificate}
 use Rattle.node_core.proofs.Finding.{found-certificate, found-verdict, found-vote, still-unknown}
+use Rattle.voter_history.specs.Past as past
+use Rattle.voter_history.specs.History.{seen}
+use Rattle.node_core.proofs.Knowing.{known-recalled, none-some}
 use Rattle.node_core.proofs.recalling.tell_voter.Goals as goal
 
 pub returns-in-Vote : goal.returns-in-Vote
@@ -28,7 +31,18 @@ returns-in-Certificate g c = on_ok_weaker c.give.result (λ told s h k room new.
     ))
     c.give.ensures
 
-pub returns-in-Ok : goal.returns-in-Ok
-returns-in-Ok g c = λ s h k room new.
+pub returns-in-Some : goal.returns-in-Some
+returns-in-Some g c = λ s h k room new.
     let r = c.in_ok-replay.ensures s h k in
-    (r.0, r.1, found-verdict (voting.Keeps g.S.Scheme g.L.Elector s c.give_verdict.new.voter) c.args.now c.args.artifact.now r.0 h c.in-Verdict.round c.in-Verdict.ok (sym c.in_ok-duplicate.ensures ∙ (c.from.ensures ∙ ap said_artifact c.in-Verdict.is)) (c.in-Ok.ensures.told s (recalls r.0 c.args.artifact.now ∷ h) r.2))
+    (r.0, r.1, found-verdict (voting.Keeps g.S.Scheme g.L.Elector s c.certified.new.self) c.args.now c.args.artifact.now r.0 h c.in-Verdict.round c.in-Verdict.ok (sym c.in_ok-duplicate.ensures ∙ (c.from.ensures ∙ ap said_artifact c.in-Verdict.is)) ((rw c.in-Some.is at c.in_ok-certified-in-Verdict.ensures.keeps) s (recalls r.0 c.args.artifact.now ∷ h) r.2))
+
+-- a verdict is on a notarization that is known
+pub unreachable-requires : goal.unreachable-requires
+unreachable-requires g c =
+    let at = c.requires in
+    let r = c.in_ok-replay.ensures at.s at.h at.keeps in
+    let x = c.args.artifact.now in
+    let is = sym c.in_ok-duplicate.ensures ∙ (c.from.ensures ∙ ap said_artifact c.in-Verdict.is) in
+    let roomy = subst (λ (u : Round). HasRoom at.s.length u.view) (ap artifact_round is) at.room in
+    let none = (rw c.in-None.is at c.in_ok-certified-in-Verdict.ensures.answer) at.s (recalls r.0 x ∷ at.h) r.2 roomy ∙ known-recalled at.s at.h x c.in-Verdict.round c.in-Verdict.ok r.0 is in
+    none-some (past.notarization (seen at.s at.h c.in-Verdict.round.view)) none (at.known c.in-Verdict.round c.in-Verdict.ok is)

@@ -1,8 +1,8 @@
-use Rattle.std.proofs.Common.{refl, ◌∙◌}
+use Rattle.std.proofs.Common.{◌≡◌, ◌<◌, refl, ◌∙◌, subst, arith}
 use Rattle.simplex_member.specs.Packet.{formats}
 use Rattle.simplex_member.specs.Recorded.{record_of}
 use Rattle.simplex_member.specs.Setup.{owner_of}
-use Rattle.node_due.proofs.Settling.{none_acted, nothing_acted, one_acted, one_failed}
+use Rattle.node_due.proofs.Settling.{acts_ended, none_acted, nothing_acted, one_acted, one_failed}
 use Rattle.node_due.proofs.acting.settle.Goals as goal
 
 pub acts-init : goal.acts-init
@@ -29,4 +29,6 @@ returns-in-Err-clause-settled g c = λ s h k.
 
 pub returns-clause-settled : goal.returns-clause-settled
 returns-clause-settled g c = λ s h k.
-    record { ok = tt; any_moment = (c.acts.invariant.acts s h k).any_moment }
+    let f = formats {S = g.row.S.Denot} {P = g.row.S-PublicKey.Denot} g.D.PartialEq.eq g.D.Write.spelling g.S.Signature.Write.spelling g.S.Certificate.Write.spelling g.D.Read.reading g.S.Signature.Read.reading g.S.Certificate.Read.reading (g.S.Scheme.size s.voter.scheme) in
+    let some : 0 < g.S.Scheme.size s.voter.scheme = subst (λ x. 0 < g.S.Scheme.size x) (c.deref.ensures ∙ k.set_up.scheme_is) c.participants-members.ensures.some in
+    absurd (acts_ended c.acts.counter (omega (arith, c.acts-test.false)) k (c.acts.invariant.acts s h k) some (c.acts_end.ensures.anyhow f s g.met.D.Digest.equal_is_same))

@@ -32,7 +32,7 @@ returns-in-Ok-Some-clause-tried g c = λ s h k due retry_known.
     let may = nullify_allowed g.S.Scheme f s h k.begun k.set_up.me_is v view k.allowed (c.due_may_be_recorded.ensures.votes f s g.met.D.Digest.equal_is_same) at is_due first is.2 in
     let ahead = is_ahead g.S.Scheme g.L.Elector g.K.Disk f s c.args.core.now c.construct_nullify.new.self h (Votes (vote.Nullify v)) k
     (ahead_nullify g.S.Scheme g.L.Elector g.K.Disk f s c.construct_nullify.new.self h v view (ap (λ (r : Round). r.view) is.2.round) made) in
-    did_one g.S.Scheme g.L.Elector g.K.Disk f s is_none (NoNullifyToCast g.S.Scheme f s) c.args.core.now c.cast.new.core h (Votes (vote.Nullify v)) c.args.out.now.items c.cast.new.out.items c.cast.result refl tt
+    did_one g.S.Scheme g.L.Elector g.K.Disk f s is_none (NoNullifyToCast g.S.Scheme f s) c.args.core.now c.cast.new.core h (Votes (vote.Nullify v)) c.args.out.now.items c.cast.new.out.items c.cast.result refl
     c.cast.ensures.did (on_ok_weaker c.cast.result (λ taken. taken s h ahead may (open_to_nullify g.S.Scheme f s h v.round view is.2.round is.0)) c.cast.ensures.taken) (λ it. c.cast.ensures.any_moment s h ahead may it)
 
 pub returns-in-Ok-None-clause-tried : goal.returns-in-Ok-None-clause-tried

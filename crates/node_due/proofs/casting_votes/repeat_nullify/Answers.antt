@@ -31,7 +31,7 @@ returns-in-Ok-send_again-clause-tried g c = λ s h k at given_up due retry_known
     (λ n. c.the_nullify_of_the_current_view_is_the_last.ensures s.voter.scheme (owner_of s) (record_of h) n v)
     now last at (due (subst (λ (u : ℕ). MayGiveUp s.voter (voter_of s h) u) at is.0)) given_up (c.in-Ok.ensures s.voter (voter_of s h) k.voter) in
     let tables = c.quiet_points_leave_the_tables.ensures (finalized_of s h) c.args.core.now.tables h (Repeats v best) refl k.tables in
-    did_one g.S.Scheme g.L.Elector g.K.Disk f s is_none (NoNullifyToCast g.S.Scheme f s) c.args.core.now (record c.args.core.now { voter = c.construct_nullify.new.self }) h (Repeats v best) c.args.out.now.items c.send_again.new.out.items (Ok came.Did) refl tt
+    did_one g.S.Scheme g.L.Elector g.K.Disk f s is_none (NoNullifyToCast g.S.Scheme f s) c.args.core.now (record c.args.core.now { voter = c.construct_nullify.new.self }) h (Repeats v best) c.args.out.now.items c.send_again.new.out.items (Ok came.Did) refl
     refl (record { keeps = behind_repeat g.S.Scheme g.L.Elector g.K.Disk f s c.args.core.now c.construct_nullify.new.self h v best c.args.view c.silent_points_leave_votes.ensures.quiet k may.0 may.1 made tables; acts = c.in-Ok-send_again.ensures.done (g.S.Scheme.size s.voter.scheme) })
     (λ it. left_at_rest g.S.Scheme f s h (Repeats v best) _ _ (c.a_ledger_at_rest_leaves_its_record.ensures (owner_of s) c.args.core.now.ledger (record_of h) k.ledger it))
 
@@ -55,10 +55,13 @@ returns-in-Err-clause-tried g c = λ s h k at given_up due retry_known.
     let f = formats {S = g.row.S.Denot} {P = g.row.S-PublicKey.Denot} g.D.PartialEq.eq g.D.Write.spelling g.S.Signature.Write.spelling g.S.Certificate.Write.spelling g.D.Read.reading g.S.Signature.Read.reading g.S.Certificate.Read.reading (g.S.Scheme.size s.voter.scheme) in
     did_fail g.S.Scheme g.L.Elector g.K.Disk f s is_none (NoNullifyToCast g.S.Scheme f s) c.args.core.now _ h c.args.out.now.items c.args.out.now.items step_fault.Memory (c.a_ledger_at_rest_leaves_its_record.ensures (owner_of s) c.args.core.now.ledger (record_of h) k.ledger)
 
+-- a nullify that the voter knows is recorded
 pub returns-in_default-last_nullify-clause-tried : goal.returns-in_default-last_nullify-clause-tried
 returns-in_default-last_nullify-clause-tried g c = λ s h k at given_up due retry_known.
     let f = formats {S = g.row.S.Denot} {P = g.row.S-PublicKey.Denot} g.D.PartialEq.eq g.D.Write.spelling g.S.Signature.Write.spelling g.S.Certificate.Write.spelling g.D.Read.reading g.S.Signature.Read.reading g.S.Certificate.Read.reading (g.S.Scheme.size s.voter.scheme) in
-    did_fail g.S.Scheme g.L.Elector g.K.Disk f s is_none (NoNullifyToCast g.S.Scheme f s) c.args.core.now _ h c.args.out.now.items c.args.out.now.items step_fault.Memory (c.a_ledger_at_rest_leaves_its_record.ensures (owner_of s) c.args.core.now.ledger (record_of h) k.ledger)
+    let there = c.known_nullifies_are_recorded.ensures f s h c.args.view k.allowed given_up in
+    let none = c.in_default-last_nullify.ensures (owner_of s) (record_of h) (c.recorded.ensures (owner_of s) (record_of h) k.ledger) in
+    absurd (none there.nullify there.recorded)
 
 pub returns-in-Err-send_again-clause-tried : goal.returns-in-Err-send_again-clause-tried
 returns-in-Err-send_again-clause-tried g c = λ s h k at given_up due retry_known.

@@ -1,8 +1,8 @@
 use Rattle.std.proofs.Common.{ap, refl}
+use Rattle.std.specs.Prelude.{is_some}
 use Rattle.std.proofs.lemmas.Result.{on_ok_weaker}
 use Rattle.types_core.specs.declared.position.Round.{Round}
 use Rattle.simplex_messages.specs.declared.vote.Vote.TheVariants as vote
-use Rattle.simplex_member.specs.declared.fault.NodeFault.TheVariants as step_fault
 use Rattle.simplex_member.specs.Layers.{voter_of}
 use Rattle.simplex_member.specs.Packet.{formats}
 use Rattle.simplex_member.specs.Point.{Votes}
@@ -10,7 +10,7 @@ use Rattle.simplex_member.specs.Recorded.{record_of}
 use Rattle.simplex_member.specs.Setup.{owner_of}
 use Rattle.node_requests.specs.Asking.{is_none}
 use Rattle.node_due.specs.NoneDue.{NoFinalizeToCast}
-use Rattle.node_due.proofs.Casting.{ahead_finalize, did_fail, did_nothing, did_one, finalize_allowed, is_ahead, open_to_finalize}
+use Rattle.node_due.proofs.Casting.{ahead_finalize, did_nothing, did_one, finalize_allowed, is_ahead, open_to_finalize}
 use Rattle.node_due.proofs.casting_votes.try_finalize.Goals as goal
 
 pub returns-in-Some-construct_finalize-clause-tried : goal.returns-in-Some-construct_finalize-clause-tried
@@ -24,13 +24,15 @@ returns-in-Some-construct_finalize-clause-tried g c = λ s h k.
     let may = finalize_allowed g.S.Scheme f s h k.begun k.set_up.me_is v view k.allowed (c.due_may_be_recorded.ensures.votes f s g.met.D.Digest.equal_is_same) is.0 is.1 is.2 round in
     let ahead = is_ahead g.S.Scheme g.L.Elector g.K.Disk f s c.args.core.now c.construct_finalize.new.self h (Votes (vote.Finalize v)) k
     (ahead_finalize g.S.Scheme g.L.Elector g.K.Disk f s c.construct_finalize.new.self h v view (ap (λ (r : Round). r.view) round) (said.keeps s.voter (voter_of s h) k.voter)) in
-    did_one g.S.Scheme g.L.Elector g.K.Disk f s is_none (NoFinalizeToCast s) c.args.core.now c.cast.new.core h (Votes (vote.Finalize v)) c.args.out.now.items c.cast.new.out.items c.cast.result refl tt
+    did_one g.S.Scheme g.L.Elector g.K.Disk f s is_none (NoFinalizeToCast s) c.args.core.now c.cast.new.core h (Votes (vote.Finalize v)) c.args.out.now.items c.cast.new.out.items c.cast.result refl
     c.cast.ensures.did (on_ok_weaker c.cast.result (λ taken. taken s h ahead may (open_to_finalize g.S.Scheme f s h v.proposal.round view round is.0)) c.cast.ensures.taken) (λ it. c.cast.ensures.any_moment s h ahead may it)
 
+-- what is due is made
 pub returns-in-None-construct_finalize-clause-tried : goal.returns-in-None-construct_finalize-clause-tried
 returns-in-None-construct_finalize-clause-tried g c = λ s h k.
-    let f = formats {S = g.row.S.Denot} {P = g.row.S-PublicKey.Denot} g.D.PartialEq.eq g.D.Write.spelling g.S.Signature.Write.spelling g.S.Certificate.Write.spelling g.D.Read.reading g.S.Signature.Read.reading g.S.Certificate.Read.reading (g.S.Scheme.size s.voter.scheme) in
-    did_fail g.S.Scheme g.L.Elector g.K.Disk f s is_none (NoFinalizeToCast s) c.args.core.now _ h c.args.out.now.items c.args.out.now.items step_fault.Memory (c.a_ledger_at_rest_leaves_its_record.ensures (owner_of s) c.args.core.now.ledger (record_of h) k.ledger)
+    let first = c.in-Some.ensures s.voter (voter_of s h) k.voter in
+    let none = c.in-None-construct_finalize.ensures.answer s.voter (voter_of s h) k.voter in
+    absurd (none (ap is_some k.set_up.me_is) first.due)
 
 pub returns-in-None-clause-tried : goal.returns-in-None-clause-tried
 returns-in-None-clause-tried g c = λ s h k.

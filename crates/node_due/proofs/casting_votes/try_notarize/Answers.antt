@@ -1,4 +1,5 @@
 use Rattle.std.proofs.Common.{ap, refl}
+use Rattle.std.specs.Prelude.{is_some}
 use Rattle.std.proofs.lemmas.Result.{on_ok_weaker}
 use Rattle.types_core.specs.declared.position.Round.{Round}
 use Rattle.simplex_messages.specs.declared.vote.Vote.TheVariants as vote
@@ -26,13 +27,15 @@ returns-in-Ok-Some-clause-tried g c = λ s h k.
     let may = notarize_allowed g.S.Scheme f s h k.begun k.set_up.me_is v view k.allowed (c.due_may_be_recorded.ensures.votes f s g.met.D.Digest.equal_is_same) is.0 is.1 is.2 round in
     let ahead = is_ahead g.S.Scheme g.L.Elector g.K.Disk f s c.args.core.now c.construct_notarize.new.self h (Votes (vote.Notarize v)) k
     (ahead_notarize g.S.Scheme g.L.Elector g.K.Disk f s c.construct_notarize.new.self h v view (ap (λ (r : Round). r.view) round) (made s.voter (voter_of s h) k.voter)) in
-    did_one g.S.Scheme g.L.Elector g.K.Disk f s is_none (NoNotarizeToCast s) c.args.core.now c.cast.new.core h (Votes (vote.Notarize v)) c.args.out.now.items c.cast.new.out.items c.cast.result refl tt
+    did_one g.S.Scheme g.L.Elector g.K.Disk f s is_none (NoNotarizeToCast s) c.args.core.now c.cast.new.core h (Votes (vote.Notarize v)) c.args.out.now.items c.cast.new.out.items c.cast.result refl
     c.cast.ensures.did (on_ok_weaker c.cast.result (λ taken. taken s h ahead may (open_to_notarize g.S.Scheme f s h v.proposal.round view round is.0)) c.cast.ensures.taken) (λ it. c.cast.ensures.any_moment s h ahead may it)
 
+-- what is due is made
 pub returns-in-Ok-None-clause-tried : goal.returns-in-Ok-None-clause-tried
 returns-in-Ok-None-clause-tried g c = λ s h k.
-    let f = formats {S = g.row.S.Denot} {P = g.row.S-PublicKey.Denot} g.D.PartialEq.eq g.D.Write.spelling g.S.Signature.Write.spelling g.S.Certificate.Write.spelling g.D.Read.reading g.S.Signature.Read.reading g.S.Certificate.Read.reading (g.S.Scheme.size s.voter.scheme) in
-    did_fail g.S.Scheme g.L.Elector g.K.Disk f s is_none (NoNotarizeToCast s) c.args.core.now _ h c.args.out.now.items c.args.out.now.items step_fault.Memory (c.a_ledger_at_rest_leaves_its_record.ensures (owner_of s) c.args.core.now.ledger (record_of h) k.ledger)
+    let first = c.in-Some.ensures s.voter (voter_of s h) k.voter in
+    let none = (rw c.in-Ok-None.field-0-is at c.in-Ok-None.ensures.answer) s.voter (voter_of s h) k.voter in
+    absurd (none (ap is_some k.set_up.me_is) first.due)
 
 pub returns-in-Err-clause-tried : goal.returns-in-Err-clause-tried
 returns-in-Err-clause-tried g c = λ s h k.

@@ -23,7 +23,7 @@ returns-in-Ok-Some-default-Forwards-clause-tried g c = λ s h k.
     let f = formats {S = g.row.S.Denot} {P = g.row.S-PublicKey.Denot} g.D.PartialEq.eq g.D.Write.spelling g.S.Signature.Write.spelling g.S.Certificate.Write.spelling g.D.Read.reading g.S.Signature.Read.reading g.S.Certificate.Read.reading (g.S.Scheme.size s.voter.scheme) in
     let does = rw (c.in-Ok-Some-default-Forwards.field-0-is, c.in-Ok-Some-default-Forwards.field-0-0-1-is) at c.in-Ok-Some-default-Forwards.ensures.done in
     let ahead = forwards g.S.Scheme g.L.Elector g.K.Disk f s c.args.core.now c.next_due.new.self h k c.in-Ok-Some-default-Forwards.view c.in-Ok-Some-default-Forwards.proposal (does s h k.votes) in
-    tried_one g.S.Scheme g.L.Elector g.K.Disk f s is_none (NoConstructionToMake g.S.Scheme f s) c.args.core.now c.take_proposal.new.core h (Forwards c.in-Ok-Some-default-Forwards.view c.in-Ok-Some-default-Forwards.proposal) c.args.out.now.items c.args.out.now.items c.take_proposal.result refl tt c.take_proposal.ensures.did
+    tried_one g.S.Scheme g.L.Elector g.K.Disk f s is_none (NoConstructionToMake g.S.Scheme f s) c.args.core.now c.take_proposal.new.core h (Forwards c.in-Ok-Some-default-Forwards.view c.in-Ok-Some-default-Forwards.proposal) c.args.out.now.items c.args.out.now.items c.take_proposal.result refl c.take_proposal.ensures.did
     (on_ok_weaker c.take_proposal.result (λ taken. record { keeps = taken s h ahead.0 ahead.1; acts = nothing_more f c.args.out.now.items }) c.take_proposal.ensures.taken)
     (λ it. subst (λ (on : g.row.K.Denot). LeavesOnly (g.K.Disk.calls c.args.core.now.ledger.journal.disk) (g.K.Disk.calls on) (IsLeftBy g.S.Scheme f s h (Forwards c.in-Ok-Some-default-Forwards.view c.in-Ok-Some-default-Forwards.proposal))) (sym c.take_proposal.ensures.disk)
     (left_at_rest g.S.Scheme f s h (Forwards c.in-Ok-Some-default-Forwards.view c.in-Ok-Some-default-Forwards.proposal) _ _ ((c.a_ledger_at_rest_leaves_its_record.ensures (owner_of s) c.args.core.now.ledger (record_of h) k.ledger) it)))
@@ -38,7 +38,7 @@ returns-in-Ok-Some-default-Made-clause-tried g c = λ s h k.
     let made = constructs g.S.Scheme g.L.Elector g.K.Disk f s c.args.core.now c.next_due.new.self h k c.in-Ok-Some-default-Made.field-0-0-0 c.in-Ok-Some-default-Made.batch (λ x y. g.met.D.Digest.equal_is_same x y) (λ exact. c.what_is_made_may_be_recorded.ensures f s exact) some (does s h k.votes) in
     let may : MayCome g.S.Scheme f s (artifact_fits g.D.Write.fits g.S.Signature.Write.fits g.S.Certificate.Write.fits) h (Constructs c.in-Ok-Some-default-Made.field-0-0-0 made.0 c.in-Ok-Some-default-Made.batch) = λ spelled.
     made.2 (made_recordable f _ g.S.Certificate.Read.within (g.S.Scheme.size s.voter.scheme) (c.packets_are_read_back.ensures.recordable (g.S.Scheme.size s.voter.scheme) small) c.in-Ok-Some-default-Made.batch.certificate (readable s h k.votes) spelled) in
-    tried_one g.S.Scheme g.L.Elector g.K.Disk f s is_none (NoConstructionToMake g.S.Scheme f s) c.args.core.now c.take_batch.new.core h (Constructs c.in-Ok-Some-default-Made.field-0-0-0 made.0 c.in-Ok-Some-default-Made.batch) c.args.out.now.items c.take_batch.new.out.items c.take_batch.result refl tt c.take_batch.ensures.did
+    tried_one g.S.Scheme g.L.Elector g.K.Disk f s is_none (NoConstructionToMake g.S.Scheme f s) c.args.core.now c.take_batch.new.core h (Constructs c.in-Ok-Some-default-Made.field-0-0-0 made.0 c.in-Ok-Some-default-Made.batch) c.args.out.now.items c.take_batch.new.out.items c.take_batch.result refl c.take_batch.ensures.did
     (on_ok_weaker c.take_batch.result (λ taken. taken s h c.in-Ok-Some-default-Made.field-0-0-0 made.0 made.1 may) c.take_batch.ensures.taken)
     (c.take_batch.ensures.any_moment s h c.in-Ok-Some-default-Made.field-0-0-0 made.0 made.1 may)
 

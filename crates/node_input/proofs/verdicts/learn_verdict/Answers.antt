@@ -1,9 +1,10 @@
-use Rattle.std.proofs.Common.{◌≡◌, ◌∷◌, ◌∙◌, ℕ, List, Some, refl, sym, ap, subst}
-use Rattle.std.proofs.lemmas.Option.{same_Some}
+use Rattle.std.proofs.Common.{◌≡◌, ◌∷◌, ◌∙◌, ℕ, List, Option, Some, refl, sym, ap, subst}
+use Rattle.std.specs.Prelude.{if◌then◌else◌, is_some}
 use Rattle.std.proofs.lemmas.Result.{on_ok_weaker}
 use Rattle.types_core.specs.declared.position.Round.{Round}
 use Rattle.types_core.specs.Positions.{HasRoom}
 use Rattle.messages_certificates.specs.declared.artifact.Artifact.TheVariants as artifact
+use Rattle.messages_certificates.specs.ProposalCertificate.{Notarization}
 use Rattle.voter_history.specs.History.{judged}
 use Rattle.simplex_state.specs.State as voting
 use Rattle.simplex_member.specs.Deeds.{Deed, entered_deeds, report_deeds}
@@ -22,18 +23,17 @@ returns-clause-taken g c = on_ok_weaker c.relay_at_entry.result (λ acts. λ s h
     let v = voter_of s h in
     let r : Round = record { epoch = s.voter.epoch; view = c.args.view } in
     let p = Judged r c.args.ok in
-    let n = c.in_ok-notarization.notarization in
     let j = c.awaited_verdicts_may_be_taken.ensures f s h r k.allowed refl awaited in
-    let same : n ≡ j.notarization = same_Some n j.notarization (c.in_ok-notarization.ensures.known s.voter v k.voter j.room ∙ j.known) in
-    let found = j.recorded ∙ ap Some (sym same) in
-    let at : n.proposal.round.view ≡ c.args.view = subst (λ x. x.proposal.round.view ≡ c.args.view) (sym same) j.at in
+    let n = j.notarization in
+    let known : c.in-Ok.notarization ≡ Some n = c.in-Ok.ensures.answer s.voter v k.voter j.room ∙ j.known in
     let now : c.moment-now.result ≡ latest h = c.moment-now.ensures low h k.tables in
-    let voter = subst (λ (t : ℕ). voting.Keeps g.S.Scheme g.L.Elector s.voter c.give_verdict.new.voter (judged t c.args.view c.args.ok ∷ v)) now (c.in_ok-notarization.ensures.told s.voter v k.voter) in
+    let told = subst (λ (o : Option (Notarization g.row.S.Denot g.row.D.Denot g.row.S-PublicKey.Denot g.row.S-Signature.Denot g.row.S-Certificate.Denot)). voting.Keeps g.S.Scheme g.L.Elector s.voter c.certified.new.self (if is_some o then judged c.moment-now.result c.args.view c.args.ok ∷ v else v)) known (c.in-Ok.ensures.keeps s.voter v k.voter) in
+    let voter = subst (λ (t : ℕ). voting.Keeps g.S.Scheme g.L.Elector s.voter c.certified.new.self (judged t c.args.view c.args.ok ∷ v)) now told in
     let votes = c.in_ok-enter.ensures.entered s h p refl voter (c.silent_points_leave_votes.ensures.silent s c.args.core.now.acceptance h p (λ view. (refl, λ x. refl)) k.votes) in
-    let repair = c.in_ok-judge_repair.ensures.told s.voter.length (repair_of f h) k.repair (subst (λ (u : ℕ). HasRoom s.voter.length u) (sym at) j.room) in
+    let repair = c.in_ok-hand_on.ensures.told n known s.voter.length (repair_of f h) k.repair (subst (λ (u : ℕ). HasRoom s.voter.length u) (sym j.at) j.room) in
     let tables = c.quiet_points_leave_the_tables.ensures low c.args.core.now.tables h p refl k.tables in
-    let keeps = behind_verdict g.S.Scheme g.L.Elector g.K.Disk f s c.args.core.now c.give_verdict.new.voter c.enter.new.acceptance c.judge_repair.new.repair h r c.args.ok n recorded may found at voter votes repair tables in
-    let reported = subst (λ (deeds : List (Deed _ _ _ _ _)). AddsDeeds f c.args.out.now.items c.report_verdict.new.out.items deeds) (reports_are g.S.Scheme f s h r n c.args.ok found) (c.in_ok-report_verdict.ensures.acts f) in
+    let keeps = behind_verdict g.S.Scheme g.L.Elector g.K.Disk f s c.args.core.now c.certified.new.self c.enter.new.acceptance c.hand_on.new.repair h r c.args.ok n recorded may j.recorded j.at voter votes repair tables in
+    let reported = subst (λ (deeds : List (Deed _ _ _ _ _)). AddsDeeds f c.args.out.now.items c.hand_on.new.out.items deeds) (reports_are g.S.Scheme f s h r n c.args.ok j.recorded) (c.in_ok-hand_on.ensures.acts f n known) in
     record {
       keeps = keeps;
       acts = both_more f _ _ _ (report_deeds g.S.Scheme f s h (artifact.Certification r c.args.ok)) (entered_deeds g.S.Scheme f s h p) reported (acts f s h p refl keeps (c.current_view-was.ensures s.voter v k.voter));

@@ -13,7 +13,7 @@ use Rattle.node_requests.proofs.verifying.ask_what_is_wanted.Goals as goal
 
 pub returns-in-Wait-clause-acts : goal.returns-in-Wait-clause-acts
 returns-in-Wait-clause-acts g c = λ s h k answers.
-    waits g.S.Scheme g.L.Elector (formats {S = g.row.S.Denot} {P = g.row.S-PublicKey.Denot} g.D.PartialEq.eq g.D.Write.spelling g.S.Signature.Write.spelling g.S.Certificate.Write.spelling g.D.Read.reading g.S.Signature.Read.reading g.S.Certificate.Read.reading (g.S.Scheme.size s.voter.scheme)) s c.a_latch_changes_nothing_due.ensures.latch c.a_look_leaves_nothing_to_ask.ensures.unchanged c.args.voter.now c.args.tables.now h (latest h) c.args.out.now.items k.begun refl k.tables_are
+    waits g.S.Scheme g.L.Elector (formats {S = g.row.S.Denot} {P = g.row.S-PublicKey.Denot} g.D.PartialEq.eq g.D.Write.spelling g.S.Signature.Write.spelling g.S.Certificate.Write.spelling g.D.Read.reading g.S.Signature.Read.reading g.S.Certificate.Read.reading (g.S.Scheme.size s.voter.scheme)) s c.a_look_leaves_nothing_to_ask.ensures.no_reason c.a_look_leaves_nothing_to_ask.ensures.unchanged c.args.voter.now c.args.tables.now h (latest h) c.args.out.now.items k.begun refl k.tables_are
     (rw c.in-Wait.is at answers)
 
 pub returns-in-Ready-clause-acts : goal.returns-in-Ready-clause-acts

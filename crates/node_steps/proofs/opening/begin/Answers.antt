@@ -12,6 +12,10 @@ returns-in-Ok-clause-opened g c = λ n s on now size.
 pub returns-in-Ok-clause-any_moment : goal.returns-in-Ok-clause-any_moment
 returns-in-Ok-clause-any_moment g c = λ s h k. (c.in-Ok.ensures.settled s h k.core).any_moment
 
+-- no step failed before
+pub not_begun-requires : goal.not_begun-requires
+not_begun-requires g c = λ is. c.in-Err.ensures.faults.not_failed (let same = is in cc same)
+
 -- where what was due was not done, the disk is given back as it was left
 pub returns-in-Err-clause-memory : goal.returns-in-Err-clause-memory
 returns-in-Err-clause-memory g c = c.not_begun.ensures.faults

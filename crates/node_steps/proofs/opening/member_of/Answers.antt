@@ -1,5 +1,7 @@
-use Rattle.std.proofs.Common.{◌≡◌, ◌+◌, ◌<◌, ◌^◌, ℕ, inl, inr, refl, sym, subst, None, Some, arith}
+use Rattle.std.proofs.Common.{◌≡◌, ◌+◌, ◌<◌, ◌^◌, ℕ, inl, inr, ⊎_elim, refl, sym, subst, None, Some, arith}
+use Rattle.std.proofs.lemmas.Bool.{cases_lt}
 use Rattle.voter_rules.specs.declared.config.ConfigFault.{ConfigFault}
+use Rattle.voter_rules.specs.declared.config.ConfigFault.TheVariants as config_fault
 use Rattle.voter_rules.specs.Configuring as config
 use Rattle.simplex_member.specs.declared.fault.OpenFault.TheVariants as open_fault
 use Rattle.simplex_member.specs.Setup.{longest_timeout, setup_of}
@@ -30,3 +32,19 @@ returns-clause-good g c =
     (subst (λ (m : ℕ). (x : ConfigFault) → config.Applies c.args.config.now m x → ⊥) c.participants.ensures.value c.in-Ok.ensures.good)
     None
     (inr (λ late. late (subst (λ (m : ℕ). c.args.now + m < 2 ^ 64) long (long-enough c.args.now c.longest_timeout.result some c.if-longest_timeout-now.false)), refl))
+
+-- acts end: by the scheme its index is a member's, by the elector members lead, terms have views, and the configuration's retry isn't 0
+pub returns-clause-ends : goal.returns-clause-ends
+returns-clause-ends g c = λ built. record {
+  members = g.S.Scheme.size c.args.scheme.now;
+  few = subst (λ (m : ℕ). m < 2 ^ 32) c.participants.ensures.value (omega (arith, c.participants.type_inv));
+  acts_end = record {
+    member = c.in-Some.ensures.member;
+    by_members = record {
+      own = sym c.in-Some.ensures.own;
+      named = λ view certificate. g.met.L.Elector.participants_lead c.args.elector.now (g.S.Scheme.size c.args.scheme.now) (record { epoch = c.args.config.now.epoch; view = view }) certificate built;
+    };
+    terms = let same : c.length-length.result ≡ (g.L.Elector.terms_of c.args.elector.now).length = rw c.terms-2.ensures at c.length-length.ensures in let some = c.length-length.type_inv in omega (arith, same, some);
+    retries = ⊎_elim (λ some. some) (λ none. absurd (c.in-Ok.ensures.good config_fault.RetryZero (omega (arith, none)))) (cases_lt 0 c.args.config.now.timeout_retry);
+  };
+}

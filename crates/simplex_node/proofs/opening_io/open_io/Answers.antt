@@ -14,6 +14,7 @@ returns-in-Ok-clause-opening g c = record {
   told_later = tt;
   foreign = tt;
   contradiction = tt;
+  untouched = tt;
   device = tt;
   no_device = tt;
   no_fault = c.in-Ok.ensures.no_fault;

@@ -2,6 +2,7 @@ use super::{Member, NotYet};
 use crate::wire::{Event, Reply, Trouble};
 use anyhow::{Context, Result, anyhow, bail};
 use std::io::{Read, Write};
+use std::os::unix::process::CommandExt;
 use std::path::Path;
 use std::process::{ChildStdin, ChildStdout, Command, Stdio};
 use std::thread;
@@ -51,6 +52,8 @@ impl Child {
             .stdin(Stdio::piped())
             .stdout(Stdio::piped())
             .stderr(Stdio::piped())
+            // A signal to the host's group, as Ctrl-C is, is the host's: the node ends when its input does.
+            .process_group(0)
             .spawn()
             .with_context(|| format!("the program {}", program.display()))?;
         let input = process.stdin.take();

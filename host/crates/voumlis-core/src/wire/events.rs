@@ -159,7 +159,23 @@ const REFUSALS: [&str; 16] = [
     "a moment too far ahead",
 ];
 
+/// The number of: a view that isn't kept, or not listened to.
+const VIEWS_APART: u8 = 6;
+
+/// The number of: what came before.
+const REPETITION: u8 = 11;
+
 impl Reply {
+    /// Whether a packet was refused since its view lies too far from the node's.
+    pub fn is_of_views_apart(&self) -> bool {
+        self.refused == VIEWS_APART
+    }
+
+    /// Whether something may rest on the packet that was handed in: it was taken, is known, or is told of, as evidence is.
+    pub fn is_about_it(&self) -> bool {
+        matches!(self.refused, 0 | REPETITION) || !self.actions.is_empty()
+    }
+
     /// Why the event was refused, in words, if it was.
     pub fn refusal(&self) -> Option<&'static str> {
         let number = usize::from(self.refused).checked_sub(1)?;

@@ -3,6 +3,7 @@
 mod events;
 mod messages;
 mod reader;
+mod words;
 
 pub use events::{Action, Channel, Context, Event, Plan, Reply};
 pub use messages::{

@@ -6,6 +6,7 @@ use std::collections::BTreeMap;
 use std::fs::{self, File};
 use std::io::{Read, Write};
 use std::net::{SocketAddr, TcpListener, TcpStream};
+use std::os::unix::process::CommandExt;
 use std::path::{Path, PathBuf};
 use std::process::{Child, Command, ExitStatus, Output, Stdio};
 use std::sync::atomic::{AtomicU32, Ordering};
@@ -125,6 +126,8 @@ impl Committee {
         let mut command = Command::new(binary);
         command.arg("run").arg(self.member(member));
         command.stdout(Stdio::null()).stderr(log);
+        // As a terminal does.
+        command.process_group(0);
         command
     }
 
@@ -153,6 +156,20 @@ impl Committee {
         let killed = Command::new("kill").arg(process.id().to_string()).status();
         assert!(killed.unwrap().success());
         until("a member ends at SIGTERM", || process.try_wait().unwrap())
+    }
+
+    /// As Ctrl-C in a terminal, which goes to all processes of its group.
+    pub fn interrupt(&mut self, member: usize) -> ExitStatus {
+        let group = format!("-{}", self.processes[&member].id());
+        let killed = Command::new("kill").args(["-INT", "--", &group]).status();
+        assert!(killed.unwrap().success());
+        self.ended(member)
+    }
+
+    /// Waits until a member ends by itself.
+    pub fn ended(&mut self, member: usize) -> ExitStatus {
+        let mut process = self.processes.remove(&member).unwrap();
+        until("a member ends", || process.try_wait().unwrap())
     }
 
     pub fn get(&self, member: usize, path: &str) -> Option<String> {

@@ -4,18 +4,13 @@ use Rattle.messages_certificates.specs.declared.artifact.Artifact.{Artifact}
 use Rattle.simplex_record.specs.CheckerState as kept
 use Rattle.simplex_record.specs.Record.{Entry, entry}
 use Rattle.node_record.proofs.recorded.Recorded.add.Goals as goal
-use Rattle.node_record.proofs.recorded.Recorded.add.Goals.{in-Err-push, in-Ok-push}
 
-pub returns-after-push : goal.returns-after-push
-returns-after-push g c = elim c.match-push.branch [
-  | in-Ok-push w ↦
-      rw w.result-is (λ owner xs k follows.
-      let noted = c.in-Ok.ensures owner xs k follows in
-      record {
-        length_is = noted.length_is;
-        artifacts_are = w.in-Ok-push.ensures.items ∙ ap (λ (ys : List (Artifact g.row.S.Denot g.row.D.Denot g.row.S-PublicKey.Denot g.row.S-Signature.Denot g.row.S-Certificate.Denot)). ys ++ c.args.artifact ∷ []) noted.artifacts_are;
-        standing = subst (λ (es : List (Entry g.row.D.Denot)). kept.Keeps owner.term_length c.note.new.self.standing es) (sym (map-append entry xs (c.args.artifact ∷ []))) noted.standing;
-        places = noted.places;
-      })
-  | in-Err-push w ↦ rw w.result-is tt
-]
+pub returns-in-Ok-push : goal.returns-in-Ok-push
+returns-in-Ok-push g c = λ owner xs k follows.
+    let noted = c.in-Ok.ensures.noted owner xs k follows in
+    record {
+      length_is = noted.length_is;
+      artifacts_are = c.in-Ok-push.ensures.items ∙ ap (λ (ys : List (Artifact g.row.S.Denot g.row.D.Denot g.row.S-PublicKey.Denot g.row.S-Signature.Denot g.row.S-Certificate.Denot)). ys ++ c.args.artifact ∷ []) noted.artifacts_are;
+      standing = subst (λ (es : List (Entry g.row.D.Denot)). kept.Keeps owner.term_length c.note.new.self.standing es) (sym (map-append entry xs (c.args.artifact ∷ []))) noted.standing;
+      places = noted.places;
+    }

@@ -1,0 +1,2 @@
+pub mod Certifying
+pub mod Chain
