@@ -1,4 +1,4 @@
-//! `simplex_tool`: hands the program's words, its streams and the file that they name to the library, and says of a record that is
+//! `simplex_tool`: hands the program's words, its streams and the file that they name to the libraries, and says of a record that is
 //! checked what of its file is no part of it.
 #![tactic(auto)]
 
@@ -6,6 +6,7 @@ ghost use Rattle.std.specs.Prelude.{◌<◌};
 ghost use Rattle.cli_tool.specs.Command.{IsAsked};
 
 use cli_audit::read_all;
+use cli_file::{path_behind, tell_settings};
 use cli_opening::{look_at, say_barred, say_found};
 use cli_tool::{Call, Request, misused, parse_call, run_request, unopened, words_unread};
 use std::fs::{self, File};
@@ -76,8 +77,26 @@ fn answer_of_input(rt: &HostRuntime, call: Call<'_>) -> u8
     run_request(rt.alloc(), call, &mut input, &mut output, &mut faults)
 }
 
+/// Tells what the file of settings at this path says.
+fn tell_file(rt: &HostRuntime, path: &str) -> u8 {
+    let mut output = rt.stdout();
+    let mut faults = rt.stderr();
+    match File::open(rt, path) {
+        Ok(mut file) => tell_settings(rt.alloc(), &mut file, &mut output, &mut faults),
+        Err(_) => unopened(&mut faults),
+    }
+}
+
 /// Answers the call of these words.
 fn answer(rt: &HostRuntime, words: &[String]) -> u8 {
+    match path_behind("settings", words) {
+        Some(path) => tell_file(rt, path),
+        None => answer_call(rt, words),
+    }
+}
+
+/// Answers the call of these words about messages or a record.
+fn answer_call(rt: &HostRuntime, words: &[String]) -> u8 {
     let Some(call) = parse_call(words) else {
         return misused(&mut rt.stderr());
     };

@@ -1,0 +1,3 @@
+pub mod Filed
+pub mod Lines
+pub mod Words
