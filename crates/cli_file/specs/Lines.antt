@@ -94,18 +94,27 @@ conduct_lines c =
     ++ truth_line key.HistoricalVotes c.track_historical_votes)))))
 
 -- the path of the record, if it is named
-abbrev pub record_line : MemberFile → List ℕ
+unfoldable pub record_line : MemberFile → List ℕ
 record_line f = option_map_or (λ path. words_line key.Record (string_bytes path)) f.record []
 
 -- each part under its title
+unfoldable pub alike_title : List ℕ
+alike_title = codes "# alike at all members, and through all lives of a record\n"
+
+unfoldable pub own_title : List ℕ
+own_title = codes "\n# this member\n"
+
+unfoldable pub differing_title : List ℕ
+differing_title = codes "\n# what may differ\n"
+
 unfoldable pub alike_lines : Committee → List ℕ
-alike_lines c = codes "# alike at all members, and through all lives of a record\n" ++ committee_lines c
+alike_lines c = alike_title ++ committee_lines c
 
 unfoldable pub own_lines : MemberFile → List ℕ
-own_lines f = codes "\n# this member\n" ++ (number_line key.Member f.settings.member ++ record_line f)
+own_lines f = own_title ++ (number_line key.Member f.settings.member ++ record_line f)
 
 unfoldable pub differing_lines : Conduct → List ℕ
-differing_lines c = codes "\n# what may differ\n" ++ conduct_lines c
+differing_lines c = differing_title ++ conduct_lines c
 
 -- all settings, each default too
 abbrev pub settings_lines : MemberFile → List ℕ

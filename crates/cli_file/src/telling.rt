@@ -4,7 +4,7 @@ ghost use Rattle.std.specs.Prelude.{◌≡◌, ◌++◌, [], IfOk, OnOk};
 ghost use Rattle.std.specs.List.{flat_map};
 ghost use Rattle.std.specs.Option.{option_map_or};
 ghost use Rattle.cli_settings.specs.Building.{seed_of};
-ghost use Rattle.cli_file.specs.Lines.{alike_lines, budget_line, committee_lines, conduct_lines, differing_lines, digits_line, is_control, number_line, own_lines, quoted_byte, record_line, settings_lines, skip_lines, truth_line, truth_word, turns_lines, words_line};
+ghost use Rattle.cli_file.specs.Lines.{alike_lines, alike_title, budget_line, committee_lines, conduct_lines, differing_lines, differing_title, digits_line, is_control, number_line, own_lines, own_title, quoted_byte, record_line, settings_lines, skip_lines, truth_line, truth_word, turns_lines, words_line};
 ghost use Rattle.cli_toml.specs.Saying.{forward_word};
 ghost use Rattle.cli_toml.specs.declared.key.Key.TheVariants.{Seed};
 
@@ -25,12 +25,36 @@ pub fn settings_text(alloc: Global, file: &MemberFile) -> Result<Vec<u8>, AllocE
     Ok(text)
 }
 
+/// The title of what must be alike.
+#[tactic(auto, unfolding(crate::specs::Lines::alike_title))]
+fn title_of_alike() -> &'static str
+    ensures { result.now ≡ alike_title }
+{
+    "# alike at all members, and through all lives of a record\n"
+}
+
+/// The title of which member it is.
+#[tactic(auto, unfolding(crate::specs::Lines::own_title))]
+fn title_of_own() -> &'static str
+    ensures { result.now ≡ own_title }
+{
+    "\n# this member\n"
+}
+
+/// The title of what may differ.
+#[tactic(auto, unfolding(crate::specs::Lines::differing_title))]
+fn title_of_differing() -> &'static str
+    ensures { result.now ≡ differing_title }
+{
+    "\n# what may differ\n"
+}
+
 /// Ends the text with what must be alike, under its title.
 #[tactic(auto, unfolding(crate::specs::Lines::alike_lines))]
 fn push_alike(alloc: Global, text: &mut Vec<u8>, committee: &Committee) -> Result<(), AllocError>
     ensures { OnOk result (text.new.items ≡ text.old.items ++ alike_lines committee.now) }
 {
-    text.extend_from_slice(b"# alike at all members, and through all lives of a record\n")?;
+    text.extend_from_slice(title_of_alike().as_bytes())?;
     push_committee(alloc, text, committee)
 }
 
@@ -39,7 +63,7 @@ fn push_alike(alloc: Global, text: &mut Vec<u8>, committee: &Committee) -> Resul
 fn push_own(alloc: Global, text: &mut Vec<u8>, file: &MemberFile) -> Result<(), AllocError>
     ensures { OnOk result (text.new.items ≡ text.old.items ++ own_lines file.now) }
 {
-    text.extend_from_slice(b"\n# this member\n")?;
+    text.extend_from_slice(title_of_own().as_bytes())?;
     push_number(alloc, text, Key::Member, u64::from(file.settings.member))?;
     push_record(alloc, text, file)
 }
@@ -49,11 +73,12 @@ fn push_own(alloc: Global, text: &mut Vec<u8>, file: &MemberFile) -> Result<(), 
 fn push_differing(alloc: Global, text: &mut Vec<u8>, conduct: &Conduct) -> Result<(), AllocError>
     ensures { OnOk result (text.new.items ≡ text.old.items ++ differing_lines conduct.now) }
 {
-    text.extend_from_slice(b"\n# what may differ\n")?;
+    text.extend_from_slice(title_of_differing().as_bytes())?;
     push_conduct(alloc, text, conduct)
 }
 
 /// Ends the text with the path of the record, if it is named.
+#[tactic(auto, unfolding(crate::specs::Lines::record_line))]
 fn push_record(alloc: Global, text: &mut Vec<u8>, file: &MemberFile) -> Result<(), AllocError>
     ensures { OnOk result (text.new.items ≡ text.old.items ++ record_line file.now) }
 {
