@@ -1,3 +1,4 @@
 pub mod Filed
 pub mod Lines
+pub mod Placing
 pub mod Words

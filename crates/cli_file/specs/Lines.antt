@@ -170,6 +170,15 @@ key_of settings.TooManyOptimistic = key.OptimisticViews
 unfoldable pub no_toml_line : ℕ → List ℕ → List ℕ
 no_toml_line line why = codes "fault at line " ++ (decimal line ++ (codes ": no TOML: " ++ (why ++ newline)))
 
+-- the name that is told of a fault
+abbrev pub told_name : FileFault → List ℕ
+told_name file.Memory = []
+told_name (file.NoToml why at) = []
+told_name (file.Unknown name) = string_bytes name
+told_name (file.Missing k) = key_name k
+told_name (file.Unfit k) = key_name k
+told_name (file.Settings fault) = key_name (key_of fault)
+
 -- what is told of a fault, of which this line is told
 abbrev pub Tells : Option ℕ → FileFault → List ℕ → Type 0
 Tells line file.Memory text = text ≡ codes "error: memory\n"

@@ -93,7 +93,7 @@ fn read_bytes<F: Write>(alloc: Global, text: &[u8], faults: &mut F) -> Result<Me
 /// Tells what is wrong with a file of this text, and answers the status.
 fn tell_fault<F: Write>(alloc: Global, text: &[u8], fault: &FileFault, faults: &mut F) -> u8
     ensures statuses { (result ≡ 1) ⊎ (result ≡ 3) }
-    ensures told { result ≡ 3 → TellsFault fault.now (F.contents faults.old) (F.contents faults.new) }
+    ensures told { result ≡ 3 → TellsFault text.now fault.now (F.contents faults.old) (F.contents faults.new) }
     ensures troubled { result ≡ 1 → TellsTrouble (F.contents faults.old) (F.contents faults.new) }
 {
     match fault_text(alloc, line_of_fault(text, fault), fault) {

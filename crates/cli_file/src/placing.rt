@@ -1,7 +1,8 @@
 //! What is wrong with a file of settings, as a line of text.
 
-ghost use Rattle.std.specs.Prelude.{◌≡◌, ◌++◌, IfOk, OnOk, codes, map};
-ghost use Rattle.cli_file.specs.Lines.{Tells, config_key, key_of, no_toml_line, place_line, place_words, range_words, shown_byte};
+ghost use Rattle.std.specs.Prelude.{◌≡◌, ◌++◌, IfOk, IfSome, OnOk, codes, map};
+ghost use Rattle.cli_file.specs.Lines.{Tells, config_key, key_of, no_toml_line, place_line, place_words, range_words, shown_byte, told_name};
+ghost use Rattle.cli_file.specs.Placing.{IsLineOf};
 ghost use Rattle.cli_toml.specs.Keys.{key_name};
 
 use crate::finding::line_of_key;
@@ -12,17 +13,16 @@ use std::alloc::{AllocError, Global};
 use voter_rules::config::ConfigFault;
 
 /// The line of the text where the key stands that the fault is about, counted from 1, if it is found.
-pub fn line_of_fault(text: &[u8], fault: &FileFault) -> Option<usize> {
-    let name = match fault {
-        FileFault::Memory | FileFault::NoToml(_, _) => return None,
-        FileFault::Unknown(name) => name.as_str(),
-        FileFault::Missing(key) => key.name(),
-        FileFault::Unfit(key) => key.name(),
-        FileFault::Settings(fault) => about(*fault).name(),
-    };
-    match std::str::from_utf8(text) {
-        Ok(text) => line_of_key(text, name),
-        Err(_) => None,
+pub fn line_of_fault(text: &[u8], fault: &FileFault) -> Option<usize>
+    ensures { IfSome result (λ line. IsLineOf (told_name fault.now) line text.now) }
+{
+    match fault {
+        FileFault::Memory => None,
+        FileFault::NoToml(_, _) => None,
+        FileFault::Unknown(name) => line_of_key(text, name.as_bytes()),
+        FileFault::Missing(key) => line_of_key(text, key.name().as_bytes()),
+        FileFault::Unfit(key) => line_of_key(text, key.name().as_bytes()),
+        FileFault::Settings(fault) => line_of_key(text, about(*fault).name().as_bytes()),
     }
 }
 

@@ -5,7 +5,7 @@ ghost use Rattle.cli_toml.specs.Refusing.{line_of};
 
 /// The line of this place of a text, counted from 1.
 #[tactic(auto, using(crate::proofs::Wrong::ends_within))]
-pub(crate) fn line_at(text: &[u8], place: usize) -> usize
+pub fn line_at(text: &[u8], place: usize) -> usize
     requires { place ≤ length text.now }
     ensures { result ≡ line_of place text.now }
 {

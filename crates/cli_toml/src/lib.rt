@@ -8,5 +8,6 @@ mod reading;
 mod values;
 
 pub use fault::{FileFault, ValueFault};
+pub use finding::line_at;
 pub use key::Key;
 pub use reading::{MemberFile, read_member};
