@@ -75,6 +75,7 @@ pub fn read_file<R: Read, F: Write>(
 }
 
 /// The same of its bytes.
+#[tactic(auto, using(crate::proofs::Told::tells_refused))]
 fn read_bytes<F: Write>(alloc: Global, text: &[u8], faults: &mut F) -> Result<MemberFile, u8>
     ensures said { IfOk result (IsFile text.now) }
     ensures good { IfOk result (λ file. IsGood file.settings) }
@@ -91,6 +92,7 @@ fn read_bytes<F: Write>(alloc: Global, text: &[u8], faults: &mut F) -> Result<Me
 }
 
 /// Tells what is wrong with a file of this text, and answers the status.
+#[tactic(auto, using(crate::proofs::Told::tells_fault))]
 fn tell_fault<F: Write>(alloc: Global, text: &[u8], fault: &FileFault, faults: &mut F) -> u8
     ensures statuses { (result ≡ 1) ⊎ (result ≡ 3) }
     ensures told { result ≡ 3 → TellsFault text.now fault.now (F.contents faults.old) (F.contents faults.new) }
