@@ -17,7 +17,6 @@ HELP = """usage: simplex_tool [--json] COMMAND, under the plain scheme over the 
   dump reports COUNT          reports on standard input, a line each
   dump record RECORD          the record in a file, a line for each entry
   check INDEX COUNT RECORD    the first entry that a lawful record of this member refuses
-  settings FILE               what a file of settings says, each key with its value
   --help, --version
 """
 VERSION = "simplex_tool: version 1 of the formats\n"

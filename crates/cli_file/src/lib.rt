@@ -10,4 +10,4 @@ mod words;
 pub use file::{read_file, tell_settings};
 pub use placing::{fault_text, line_of_fault};
 pub use telling::settings_text;
-pub use words::path_behind;
+pub use words::{HELP, path_behind};

@@ -3,6 +3,10 @@
 ghost use Rattle.std.specs.Prelude.{◌≡◌, ◌≢◌, ℕ, List, IfSome, IsNone, map, string_bytes};
 ghost use Rattle.cli_file.specs.Words.{IsCommand};
 
+/// How a program is called that tells what a file of settings says, for a person: a line of its help.
+pub const HELP: &str =
+    "  settings FILE               what a file of settings says, each key with its value\n";
+
 /// The path behind a command, if the command's name is this one.
 fn path_of<'a>(name: &str, command: &str, path: &'a str) -> Option<&'a str>
     ensures named { IfSome result (λ _. command.now ≡ name.now) }

@@ -45,7 +45,7 @@ IsAsked Version = ⊤
 
 -- how the program is called
 abbrev pub help_text : List ℕ
-help_text = codes "usage: simplex_tool [--json] COMMAND, under the plain scheme over the base simplex\n  evidence COUNT              the evidence that simplex audit finds in reports on standard input, as reports\n  dump reports COUNT          reports on standard input, a line each\n  dump record RECORD          the record in a file, a line for each entry\n  check INDEX COUNT RECORD    the first entry that a lawful record of this member refuses\n  settings FILE               what a file of settings says, each key with its value\n  --help, --version\n"
+help_text = codes "usage: simplex_tool [--json] COMMAND, under the plain scheme over the base simplex\n  evidence COUNT              the evidence that simplex audit finds in reports on standard input, as reports\n  dump reports COUNT          reports on standard input, a line each\n  dump record RECORD          the record in a file, a line for each entry\n  check INDEX COUNT RECORD    the first entry that a lawful record of this member refuses\n  --help, --version\n"
 
 -- which version of the formats it reads
 abbrev pub version_line : List ℕ

@@ -52,7 +52,7 @@ pub struct Call<'a> {
 
 /// How the program is called, for a person.
 pub const HELP: &str =
-    "usage: simplex_tool [--json] COMMAND, under the plain scheme over the base simplex\n  evidence COUNT              the evidence that simplex audit finds in reports on standard input, as reports\n  dump reports COUNT          reports on standard input, a line each\n  dump record RECORD          the record in a file, a line for each entry\n  check INDEX COUNT RECORD    the first entry that a lawful record of this member refuses\n  settings FILE               what a file of settings says, each key with its value\n  --help, --version\n";
+    "usage: simplex_tool [--json] COMMAND, under the plain scheme over the base simplex\n  evidence COUNT              the evidence that simplex audit finds in reports on standard input, as reports\n  dump reports COUNT          reports on standard input, a line each\n  dump record RECORD          the record in a file, a line for each entry\n  check INDEX COUNT RECORD    the first entry that a lawful record of this member refuses\n  --help, --version\n";
 
 /// Which version of the formats the program reads.
 pub const VERSION: &str = "simplex_tool: version 1 of the formats\n";
