@@ -1,5 +1,5 @@
 -- What is wrong with a name or a value is wrong with its table, and what is wrong with a table with its text.
-use Rattle.std.proofs.Common.{◌≡◌, ◌⊎◌, ◌≤◌, ◌==◌, ℕ, List, Option, None, Some, inl, inr, string_bytes}
+use Rattle.std.proofs.Common.{◌≡◌, ◌⊎◌, ◌≤◌, ◌==◌, ℕ, List, None, Some, inl, inr}
 use Rattle.std.proofs.lemmas.List.Sums.{count_by-le-length}
 use Rattle.std.specs.Prelude.{IsUtf8, count_by, length}
 use Rattle.toml.specs.Data.{Members}

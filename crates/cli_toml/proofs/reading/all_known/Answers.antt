@@ -1,9 +1,9 @@
-use Rattle.std.proofs.Common.{◌≡◌, ℕ, List, ◌∷◌, inl, inr, refl, subst, sym, arith, rules, string_bytes}
+use Rattle.std.proofs.Common.{◌≡◌, List, ◌∷◌, inl, inr, refl, subst, sym, arith, rules, string_bytes}
 use Rattle.std.proofs.lemmas.Grind.{common_steps}
 use Rattle.toml.specs.View.{members_view, table_view}
 use Rattle.toml.proofs.Views.{Entry}
 use Rattle.cli_toml.specs.Keys.{IsKey}
-use Rattle.cli_toml.specs.Refusing.{AreKnown, HasName, IsStranger, IsTableFault}
+use Rattle.cli_toml.specs.Refusing.{AreKnown, HasName, IsStranger}
 use Rattle.cli_toml.proofs.Wrong.{unknown_in}
 use Rattle.cli_toml.proofs.reading.all_known.Goals as goal
 
