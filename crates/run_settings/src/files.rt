@@ -1,8 +1,11 @@
 //! Files of settings.
 
+ghost use Rattle.cli_settings.specs.Checking.{IsGood};
+
 use crate::light::{chain, one};
 use crate::texts::say_text;
 use cli_file::{path_behind, read_file, tell_settings};
+use cli_settings::Settings;
 use cli_toml::MemberFile;
 use std::alloc::Global;
 use test_words::{Say, Trouble, Words};
@@ -101,11 +104,21 @@ impl Files {
         let Some(file) = &self.file else {
             return Err(Trouble::Condition);
         };
-        match name {
-            "certifies" => one(&file.settings.committee, &bytes, say),
-            "chain" => chain(&file.settings.committee, &bytes, say),
-            _ => Err(Trouble::Unreadable),
+        match file.settings.check() {
+            Ok(()) => told(name, &file.settings, &bytes, say),
+            Err(_) => Err(Trouble::Condition),
         }
+    }
+}
+
+/// What bytes certify for the members of these settings.
+fn told(name: &str, settings: &Settings, bytes: &[u8], say: &mut Say) -> Result<(), Trouble>
+    requires { IsGood settings.now }
+{
+    match name {
+        "certifies" => one(&settings.committee, bytes, say),
+        "chain" => chain(&settings.committee, bytes, say),
+        _ => Err(Trouble::Unreadable),
     }
 }
 

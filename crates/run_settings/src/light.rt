@@ -1,5 +1,7 @@
 //! What certificates certify.
 
+ghost use Rattle.cli_settings.specs.Checking.{HasMembers};
+
 use cli_light::{Certified, Uncertified, certifies, finalized_in};
 use cli_settings::Committee;
 use test_words::{Say, Trouble};
@@ -14,7 +16,9 @@ fn say_why(why: Uncertified, say: &mut Say) -> Result<(), Trouble> {
 }
 
 /// `certifies BYTES`.
-pub(crate) fn one(committee: &Committee, bytes: &[u8], say: &mut Say) -> Result<(), Trouble> {
+pub(crate) fn one(committee: &Committee, bytes: &[u8], say: &mut Say) -> Result<(), Trouble>
+    requires { HasMembers committee.now }
+{
     match certifies(say.alloc, committee, bytes) {
         Ok(Certified::Notarization(proposal)) => {
             say.text("notarization ")?;
@@ -33,7 +37,9 @@ pub(crate) fn one(committee: &Committee, bytes: &[u8], say: &mut Say) -> Result<
 }
 
 /// `chain BYTES`.
-pub(crate) fn chain(committee: &Committee, bytes: &[u8], say: &mut Say) -> Result<(), Trouble> {
+pub(crate) fn chain(committee: &Committee, bytes: &[u8], say: &mut Say) -> Result<(), Trouble>
+    requires { HasMembers committee.now }
+{
     match finalized_in(say.alloc, committee, bytes) {
         Ok(found) => {
             say.number(found.len() as u64)?;
