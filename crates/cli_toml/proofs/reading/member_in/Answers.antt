@@ -12,4 +12,4 @@ returns-in-Err-clause-fault c =
       conduct = c.in_ok-settings.ensures.conduct;
       «record» = c.in_ok-record.ensures.path;
     } in
-    (c.in_ok-all_known.ensures.known, file, says, c.in-Err.ensures.first)
+    (c.in_ok-all_known.ensures.known, (file, says, c.in-Err.ensures.first))
