@@ -1,6 +1,6 @@
 //! Where a key stands in a text.
 
-ghost use Rattle.std.specs.Prelude.{◌≡◌, ◌<◌, ◌≤◌, IfSome, IsTrue, length};
+ghost use Rattle.std.specs.Prelude.{◌≡◌, ◌<◌, ◌≤◌, IfSome, IsTrue, length, take};
 ghost use Rattle.cli_file.specs.Placing.{IsLineOf, Stands};
 
 use cli_toml::line_at;
@@ -22,13 +22,21 @@ fn ends_key(behind: &[u8]) -> bool {
     false
 }
 
+/// Whether a text begins with this name.
+fn begins_with(text: &[u8], name: &[u8]) -> bool
+    ensures within { IsTrue result → length name.now ≤ length text.now }
+    ensures begins { IsTrue result → take (length name.now) text.now ≡ name.now }
+{
+    text.len() >= name.len() && &text[..name.len()] == name
+}
+
 /// Whether this key stands at this place of a text.
 fn is_key_at(text: &[u8], place: usize, name: &[u8]) -> bool
     requires { place ≤ length text.now }
     ensures { IsTrue result → Stands name.now place text.now }
 {
     let at = &text[place..];
-    at.len() >= name.len() && &at[..name.len()] == name && ends_key(&at[name.len()..])
+    begins_with(at, name) && ends_key(&at[name.len()..])
 }
 
 /// The first place at which a line of a text gives this key a value, if there is one.
