@@ -1,5 +1,5 @@
 -- Settings, and what is wrong with a file of them, as lines of text.
-use Rattle.std.specs.Prelude.{◌≡◌, ◌==◌, ◌||◌, ℕ, Bool, true, false, nat_lt, cond, List, [], ◌∷◌, ◌++◌, codes, map, Option, None, Some, option_map, string_bytes}
+use Rattle.std.specs.Prelude.{◌≡◌, ◌==◌, ◌||◌, ℕ, Bool, true, false, nat_lt, cond, List, [], ◌∷◌, ◌++◌, codes, map, Option, None, Some, string_bytes}
 use Rattle.std.specs.Fmt.{decimal}
 use Rattle.std.specs.List.{flat_map}
 use Rattle.std.specs.Option.{option_map_or}
