@@ -23,7 +23,8 @@ impl Library {
             Err(told) => return Err(told.into()),
         };
         let actions = first.actions.into_iter().map(action).collect();
-        let refused = first.refused;
+        // The first reply answers no event: nothing is refused. By number, as in all replies.
+        let refused = first.refused.map_or(0, |why| why as u8);
         Ok((Library(node), Reply { refused, actions }))
     }
 }
