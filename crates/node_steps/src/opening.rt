@@ -30,13 +30,17 @@ use types_core::{Digest, Participant, Scheme, Write};
 use types_terms::{Elector, Terms};
 use voter_rules::config::{Config, SkipPolicy, check_config};
 
+/// How many views of a term may be optimistic: a step goes over each of them.
+pub const MOST_OPTIMISTIC: u64 = 1_000;
+
 impl<S: Scheme<D> + Drop, L: Elector<S, D>, D: Digest, K: Disk> Node<S, L, D, K> {
     /// Opens a member's record at a moment, in milliseconds: the node behind all that it says, and its first actions.
     ///
     /// # Errors
     ///
-    /// The first of [`OpenFault::NoKey`], [`OpenFault::Config`] and [`OpenFault::MomentTooLate`] that applies, before the disk is
-    /// asked for anything; then what is wrong with the disk, or [`OpenFault::Memory`]. With the disk.
+    /// The first of [`OpenFault::NoKey`], [`OpenFault::Config`], [`OpenFault::MomentTooLate`] and [`OpenFault::TooManyOptimistic`]
+    /// (above [`MOST_OPTIMISTIC`]) that applies, before the disk is asked for anything; then what is wrong with the disk, or
+    /// [`OpenFault::Memory`]. With the disk.
     pub fn open(
         alloc: Global,
         config: Config<D>,
@@ -215,7 +219,8 @@ fn node_of<S: Scheme<D> + Drop, L: Elector<S, D>, D: Digest, K: Disk>(
 ///
 /// # Errors
 ///
-/// The first of [`OpenFault::NoKey`], [`OpenFault::Config`] and [`OpenFault::MomentTooLate`] that applies.
+/// The first of [`OpenFault::NoKey`], [`OpenFault::Config`], [`OpenFault::MomentTooLate`] and [`OpenFault::TooManyOptimistic`] that
+/// applies.
 fn member_of<S: Scheme<D>, L: Elector<S, D>, D: Digest>(
     config: &Config<D>,
     scheme: &S,
@@ -238,11 +243,15 @@ fn member_of<S: Scheme<D>, L: Elector<S, D>, D: Digest>(
         Ok(()) => {}
         Err(fault) => return Err(OpenFault::Config(fault)),
     }
-    if longest_timeout(config, &elector.terms()) > u64::MAX - now {
+    let terms = elector.terms();
+    if longest_timeout(config, &terms) > u64::MAX - now {
         return Err(OpenFault::MomentTooLate);
     }
+    if terms.optimistic_views().get() > MOST_OPTIMISTIC {
+        return Err(OpenFault::TooManyOptimistic);
+    }
     // The proof takes from their length that terms have views.
-    let _length = elector.terms().length();
+    let _length = terms.length();
     Ok(me)
 }
 
