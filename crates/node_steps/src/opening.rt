@@ -1,6 +1,6 @@
 //! Opening a record.
 
-ghost use Rattle.std.specs.Prelude.{◌≡◌, ◌≢◌, ◌↔◌, ◌⊎◌, ℕ, [], None, Some, IfOk, IfErr, IfSome, OnOk, false, max, unwrap_or};
+ghost use Rattle.std.specs.Prelude.{◌≡◌, ◌≢◌, ◌<◌, ◌↔◌, ◌⊎◌, ℕ, IsTrue, [], None, Some, IfOk, IfErr, IfSome, OnOk, false, max, unwrap_or};
 ghost use Rattle.messages_certificates.specs.Artifact.{artifact_spelling};
 ghost use Rattle.journal_single.specs.Disk.{LeavesOnly, counted};
 ghost use Rattle.journal_single.specs.Looking.{IsLeftAsItWas};
@@ -247,12 +247,19 @@ fn member_of<S: Scheme<D>, L: Elector<S, D>, D: Digest>(
     if longest_timeout(config, &terms) > u64::MAX - now {
         return Err(OpenFault::MomentTooLate);
     }
-    if terms.optimistic_views().get() > MOST_OPTIMISTIC {
+    if has_many_optimistic(&terms) {
         return Err(OpenFault::TooManyOptimistic);
     }
     // The proof takes from their length that terms have views.
     let _length = terms.length();
     Ok(me)
+}
+
+/// Whether more views of a term are optimistic than a step may go over.
+fn has_many_optimistic(terms: &Terms) -> bool
+    ensures { IsTrue result ↔ (1000 < terms.now.optimistic_views) }
+{
+    terms.optimistic_views().get() > MOST_OPTIMISTIC
 }
 
 /// What stays the same through an opening by this member.
