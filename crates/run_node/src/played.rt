@@ -115,13 +115,13 @@ fn openings<S: Scheme<D> + Drop, L: Turns<S, D>, D: Digest>(
 {
     let mut openings = Vec::new(alloc);
     for life in lives {
-        openings.push(opening(alloc, setup, life)?)?;
+        openings.push(opening_of(alloc, setup, life)?)?;
     }
     Ok(openings)
 }
 
 /// The opening of one of them.
-fn opening<S: Scheme<D> + Drop, L: Turns<S, D>, D: Digest>(
+fn opening_of<S: Scheme<D> + Drop, L: Turns<S, D>, D: Digest>(
     alloc: Global,
     setup: &Setup,
     life: Life<Config<D>, S, Event<D>>,
