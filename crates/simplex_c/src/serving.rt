@@ -101,6 +101,7 @@ pub(crate) fn stepped(alloc: Global, node: &mut Handle, events: &[u8], found: &m
     ensures live { node.old.live ≡ 1 → node.new.live ≡ 1 }
     ensures named { result ≡ Invalid → found.new.named ≡ 1 }
     ensures unnamed { result ≢ Invalid → result ≢ Argument → found.new.named ≡ 0 }
+    ensures whole { (result ≢ Torn) × (result ≢ NoRecord) }
 {
     let Some(mut session) = node.taken(alloc) else {
         return Status::Argument;
@@ -188,6 +189,7 @@ fn told(ended: Result<(), IoFault>, found: &mut Found) -> Status
     ensures place { Names found.new.named found.new.place (run_place ended) }
     ensures named { result ≡ Invalid → found.new.named ≡ 1 }
     ensures unnamed { result ≢ Invalid → found.new.named ≡ 0 }
+    ensures whole { (result ≢ Torn) × (result ≢ NoRecord) }
 {
     match ended {
         Ok(()) => {
@@ -207,7 +209,8 @@ fn told(ended: Result<(), IoFault>, found: &mut Found) -> Status
 
 /// Why a call over events ended before them.
 fn ending(fault: IoFault) -> Status
-    ensures { result ≡ ending_status fault }
+    ensures status { result ≡ ending_status fault }
+    ensures whole { (result ≢ Torn) × (result ≢ NoRecord) }
 {
     match fault {
         IoFault::Read => Status::TooLong,
@@ -259,7 +262,8 @@ fn placeless(fault: OpenFault) -> Status
 
 /// Why a step failed.
 fn unstepped(fault: NodeFault) -> Status
-    ensures { result ≡ unstepped_status fault }
+    ensures status { result ≡ unstepped_status fault }
+    ensures whole { (result ≢ Torn) × (result ≢ NoRecord) }
 {
     match fault {
         NodeFault::Memory => Status::Memory,
