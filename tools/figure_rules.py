@@ -267,6 +267,16 @@ def lines_of_the_host():
     return len([it for it in lines if it and not it.startswith("//")])
 
 
+def faults_of_settings():
+    """The lines of the examples of faults that rows have."""
+    return [it.strip() for it in lines_of("docs/FORMATS.md") if it.startswith("    fault") and f'3 "{it.strip()}\\n"' in read("crates/run_settings/stdout")]
+
+
+def default_of(key):
+    """What a file of settings says of a key that it hasn't."""
+    return int(found("crates/run_settings/stdout", rf"\\n{key} = (\d+)\\n"))
+
+
 def quorum(members):
     members = int(members)
     return members - (members - 1) // 3
@@ -303,7 +313,7 @@ RULES = [
     Rule("docs/PROVED.md", r"`take_all` and the (\w+) `push_` calls", lambda _: len(re.findall(r"(?m)^fn push_", read("crates/simplex_c/src/requests.rt")))),
     Rule("docs/PROVED.md", r"The heap's (\w+) functions", lambda _: functions_of_the_heap()),
     # formats
-    *exact("docs/FORMATS.md", examples_of_formats()),
+    *exact("docs/FORMATS.md", [*examples_of_formats(), *faults_of_settings()]),
     Rule("docs/FORMATS.md", r"^\| `(0\d)` \|( [a-z]+)? \|( [a-z]+)? \|( [a-z]+)? \| [^|]+ \|$", tag_row),
     Rule("docs/FORMATS.md", r"Notarize as a report, an artifact or a vote, (\d+) bytes", lambda _: size_of("NOTARIZE_A", "Activity")),
     Rule("docs/FORMATS.md", r"Notarization as a report or an artifact, (\d+) bytes", lambda _: size_of("NOTARIZATION", "Activity")),
@@ -317,6 +327,7 @@ RULES = [
     *[Rule("docs/FORMATS.md", rf"^\| {kind} \| `(\w\w)`", lambda _, kind=kind: tags_of("reply")[kind])
       for kind in ("send", "block", "build", "verify", "certify", "forward", "finalized", "report", "wake")],
     Rule("docs/FORMATS.md", "Else it is " + ".*?".join(f"`({number})`" for number in refusals()), lambda _: tuple(refusals())),
+    Rule("docs/FORMATS.md", r"^\| `([a-z]+(?:-[a-z]+)*)` \| [^|]+ \| (\d+) \|$", lambda it: (it[1], default_of(it[1]))),
     Rule("docs/FORMATS.md", r"tries (\d+) readers with one rule wrong", lambda _: wrong_readers()),
     # hosting
     Rule("docs/HOSTING.md", r"the (\d+) edits of `host/broken/`", lambda _: len(files(r"host/broken/.*\.edit"))),

@@ -70,6 +70,7 @@ def sum_of(data, before=0):
 
 def quoted(text):
     """A text on one line, or the length and the sum of a long one."""
-    if len(text) > 1000:
-        return f"{len(text)} {sum_of(text.encode())}"
+    data = text.encode()
+    if len(data) > 1000:
+        return f"{len(data)} {sum_of(data)}"
     return '"' + text.replace("\n", "\\n") + '"'

@@ -1,16 +1,18 @@
-//! `simplex_tool`: hands the program's words, its streams and the file that they name to the library, and says of a record that is
+//! `simplex_tool`: hands the program's words, its streams and the file that they name to the libraries, and says of a record that is
 //! checked what of its file is no part of it.
 #![tactic(auto)]
 
 ghost use Rattle.std.specs.Prelude.{◌<◌};
 ghost use Rattle.cli_tool.specs.Command.{IsAsked};
 
-use cli_audit::read_all;
+use cli_audit::{Trouble, read_all, report};
+use cli_file::{HELP, path_behind, tell_settings};
 use cli_opening::{look_at, say_barred, say_found};
 use cli_tool::{Call, Request, misused, parse_call, run_request, unopened, words_unread};
 use std::fs::{self, File};
 use std::process::ExitCode;
 use std::{env, io};
+use types_codec::write_whole;
 
 /// The words after the program's name.
 fn words(rt: &HostRuntime) -> io::Result<Vec<String>> {
@@ -76,12 +78,53 @@ fn answer_of_input(rt: &HostRuntime, call: Call<'_>) -> u8
     run_request(rt.alloc(), call, &mut input, &mut output, &mut faults)
 }
 
+/// Answers a call for help: how the program is called, with the command on files of settings.
+fn answer_of_help(rt: &HostRuntime, call: Call<'_>) -> u8
+    requires { IsAsked call.request }
+{
+    let status = answer_of_input(rt, call);
+    if status != 0 {
+        return status;
+    }
+    match write_whole(&mut rt.stdout(), HELP.as_bytes()) {
+        Ok(()) => 0,
+        Err(_) => report(Err(Trouble::Write), &mut rt.stderr()),
+    }
+}
+
+/// The status where the words are no call, with how the program is called on standard error.
+fn answer_of_none(rt: &HostRuntime) -> u8 {
+    let mut faults = rt.stderr();
+    let status = misused(&mut faults);
+    let _ = write_whole(&mut faults, HELP.as_bytes());
+    status
+}
+
+/// Tells what the file of settings at this path says.
+fn tell_file(rt: &HostRuntime, path: &str) -> u8 {
+    let mut output = rt.stdout();
+    let mut faults = rt.stderr();
+    match File::open(rt, path) {
+        Ok(mut file) => tell_settings(rt.alloc(), &mut file, &mut output, &mut faults),
+        Err(_) => unopened(&mut faults),
+    }
+}
+
 /// Answers the call of these words.
 fn answer(rt: &HostRuntime, words: &[String]) -> u8 {
+    match path_behind("settings", words) {
+        Some(path) => tell_file(rt, path),
+        None => answer_call(rt, words),
+    }
+}
+
+/// Answers the call of these words about messages or a record.
+fn answer_call(rt: &HostRuntime, words: &[String]) -> u8 {
     let Some(call) = parse_call(words) else {
-        return misused(&mut rt.stderr());
+        return answer_of_none(rt);
     };
     match call.request {
+        Request::Help => answer_of_help(rt, call),
         Request::Record { path } => answer_of_file(rt, call, path),
         Request::Check { index, count, path } => answer_of_check(rt, call, path, index, count),
         _ => answer_of_input(rt, call),

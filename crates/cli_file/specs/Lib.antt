@@ -1,0 +1,4 @@
+pub mod Filed
+pub mod Lines
+pub mod Placing
+pub mod Words
