@@ -1,6 +1,6 @@
 //! What packets hold.
 
-ghost use Rattle.std.specs.Prelude.{◌≡◌, ◌↔◌, IsTrue, IfOk, option_map};
+ghost use Rattle.std.specs.Prelude.{◌≡◌, ◌↔◌, IsOk, IsTrue, IfOk, option_map};
 ghost use Rattle.messages_certificates.specs.Certificate.{certificate_statement};
 ghost use Rattle.simplex_member.specs.Packet.{packet_at};
 ghost use Rattle.simplex_record.specs.Rules.{HasParentBelow};
@@ -11,7 +11,7 @@ use messages_certificates::Certificate;
 use simplex_member::Channel;
 use simplex_messages::Vote;
 use std::alloc::{AllocError, Global};
-use types_core::{Digest, Scheme, View, decode_cfg};
+use types_core::{Digest, Read, Scheme, View, decode_cfg};
 
 /// What one packet holds.
 #[derive(Drop)]
@@ -24,21 +24,22 @@ pub enum Message<S: Scheme<D>, D: Digest> {
     Ask(View),
 }
 
-/// The message that the bytes are, where they are exactly one of the channel. Refused only where memory is.
+/// The message that the bytes are, where they are exactly one of the channel. Refused only where memory is, and an ask takes none.
 pub fn message_in<S: Scheme<D>, D: Digest>(
     alloc: Global,
     channel: Channel,
     bytes: &[u8],
     participants: u32,
 ) -> Result<Option<Message<S, D>>, AllocError>
-    ensures { IfOk result (λ found.
+    ensures found { IfOk result (λ found.
         option_map as_packet found ≡ packet_at (D.reading participants) (S.Signature.reading participants)
         (S.Certificate.reading participants) channel bytes.now) }
+    ensures without_memory { channel ≡ Channel.Fetches → IsOk result }
 {
     match channel {
         Channel::Votes => vote_in(alloc, bytes, participants),
         Channel::Certificates => certificate_in(alloc, bytes, participants),
-        Channel::Fetches => ask_in(alloc, bytes, participants),
+        Channel::Fetches => Ok(ask_in(alloc, bytes, participants)),
     }
 }
 
@@ -81,15 +82,20 @@ fn ask_in<S: Scheme<D>, D: Digest>(
     alloc: Global,
     bytes: &[u8],
     participants: u32,
-) -> Result<Option<Message<S, D>>, AllocError>
-    ensures { IfOk result (λ found.
-        option_map as_packet found ≡ packet_at (D.reading participants) (S.Signature.reading participants)
-        (S.Certificate.reading participants) Channel.Fetches bytes.now) }
+) -> Option<Message<S, D>>
+    ensures { option_map as_packet result ≡ packet_at (D.reading participants) (S.Signature.reading participants)
+        (S.Certificate.reading participants) Channel.Fetches bytes.now }
 {
-    match decode_cfg(alloc, bytes, participants) {
-        Ok(Some(view)) => Ok(Some(Message::Ask(view))),
-        Ok(None) => Ok(None),
-        Err(error) => Err(error),
+    let mut rest = bytes;
+    match View::read_cfg(alloc, &mut rest, participants) {
+        Ok(view) => {
+            if rest.is_empty() {
+                Some(Message::Ask(view))
+            } else {
+                None
+            }
+        }
+        Err(_) => None,
     }
 }
 

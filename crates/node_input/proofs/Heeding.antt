@@ -19,7 +19,7 @@ use Rattle.node_record.specs.Tables.{KeepsTables}
 use Rattle.simplex_member.specs.declared.action.Action.{Action}
 use Rattle.simplex_member.specs.declared.refusal.Refusal.TheVariants as refusal
 use Rattle.simplex_member.specs.Allowed.{Allowed}
-use Rattle.simplex_member.specs.Deeds.{Blocks, Reports}
+use Rattle.simplex_member.specs.Deeds.{Blocks, Deed, Reports, Serves}
 use Rattle.simplex_member.specs.First.{IsFirst}
 use Rattle.simplex_member.specs.Layers.{finalized_of, votes_of, votes_setup}
 use Rattle.simplex_member.specs.Packet.{Formats}
@@ -54,6 +54,11 @@ deeds-blocked sender a isnt does = rw (isnt, does) refl
 -- what is reported is the same where the reports are
 pub reports-as : {S D P G C : Type 0} (f : Formats S D P G C) (before after : List (Action S D P G C)) {o x : Option (Activity S D P G C)} → o ≡ x → AddsDeeds f before after (map Reports (option_to_list o)) → AddsDeeds f before after (map Reports (option_to_list x))
 reports-as {S} {D} {P} {G} {C} f before after is handed = subst (λ (r : Option (Activity S D P G C)). AddsDeeds f before after (map Reports (option_to_list r))) is handed
+
+-- what is there is served
+pub something-served : {S D P G C : Type 0} (sender : ℕ) (bytes : List ℕ) (o : Option (List ℕ)) → Some bytes ≡ o → ◌≡◌ {A = List (Deed S D P G C)} (map (Serves sender) (option_to_list o)) [] → ⊥
+something-served sender bytes None is none = absurd (cc is)
+something-served sender bytes (Some x) is none = absurd (cc none)
 
 module _ {S D P G C : Type 0} {g : Ghosts S D P G C} {f : Formats S D P G C} {s : Setup S D C} {h : History S D P G C} {sender : ℕ} {v : Vote S D P G C} (may : MayBeHeard g f s h sender v) where
   abbrev Blocked : Type 0

@@ -1,7 +1,8 @@
 -- What the tests of packets may find.
 use Rattle.std.proofs.Common.{◌≡◌, ◌≢◌, Bool, true, false, ℕ, List, [], ◌++◌, Option, Some, None, refl, sym, ◌∙◌, ap}
-use Rattle.std.specs.Prelude.{◌≤◌, ◌==◌, not}
+use Rattle.std.specs.Prelude.{◌≤◌, ◌==◌, not, option_map}
 use Rattle.std.proofs.lemmas.Bool.{eq-eqb, eqb-true}
+use Rattle.std.proofs.lemmas.Option.{none-some}
 use Rattle.types_core.specs.declared.scheme.Scheme.{Ghosts}
 use Rattle.simplex_member.specs.declared.refusal.Refusal.{Refusal}
 use Rattle.simplex_member.specs.declared.refusal.Refusal.TheVariants as refusal
@@ -12,6 +13,7 @@ use Rattle.simplex_member.specs.Point.{History}
 use Rattle.simplex_member.specs.Refusals.{HasNoneLike, blocks_sender, needs_nothing, packet_tests, refusal_report, sender_tests}
 use Rattle.simplex_member.specs.Setup.{Setup}
 use Rattle.messages_certificates.specs.declared.certificate.Certificate.{Certificate}
+use Rattle.simplex_messages.specs.declared.vote.Vote.{Vote}
 use Rattle.messages_certificates.specs.declared.certificate.Certificate.TheVariants as certificate
 use Rattle.messages_certificates.specs.Artifact.{certificate_artifact}
 use Rattle.messages_certificates.specs.Certificate.{certificate_round, certificate_statement, certified_by}
@@ -54,6 +56,18 @@ ne-same a b test so = eqb-true a b (not-false (a == b) (sym test ∙ so))
 
 pub ne-other : (a b : ℕ) {r : Bool} → r ≡ not (a == b) → r ≡ true → a ≢ b
 ne-other a b test so is = absurd (cc (eq-eqb a b is, not-true (a == b) (sym test ∙ so)))
+
+-- the vote that a packet holds, if it holds one
+abbrev vote-in : {S D P G C : Type 0} → Option (Packet S D P G C) → Option (Vote S D P G C)
+vote-in None = None
+vote-in (Some (of_vote v)) = Some v
+vote-in (Some (of_certificate c)) = None
+vote-in (Some (of_ask view)) = None
+
+-- what is read as an ask is no vote
+pub asks-no-vote : {S D P G C : Type 0} (o : Option ℕ) (v : Vote S D P G C) → ◌≡◌ {A = Option (Packet S D P G C)} (option_map of_ask o) (Some (of_vote v)) → ⊥
+asks-no-vote None v is = none-some (of_vote v) is
+asks-no-vote {S} {D} {P} {G} {C} (Some view) v is = none-some v (ap (vote-in {S} {D} {P} {G} {C}) is)
 
 abbrev needs : Refusal → Bool
 needs r = not (needs_nothing r)

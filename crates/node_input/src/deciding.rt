@@ -1,6 +1,6 @@
 //! What is done with a packet.
 
-ghost use Rattle.std.specs.Prelude.{◌≡◌, IfOk, OnErr, Some, false, ◌<◌, ◌^◌};
+ghost use Rattle.std.specs.Prelude.{◌≡◌, IfOk, IsOk, OnErr, Some, false, ◌<◌, ◌^◌};
 ghost use Rattle.simplex_member.specs.declared.refusal.Refusal.{Refusal};
 ghost use Rattle.simplex_member.specs.First.{IsFirst};
 ghost use Rattle.simplex_member.specs.Packet.{IsReadable};
@@ -35,7 +35,7 @@ pub(crate) enum Decided<S: Scheme<D>, D: Digest> {
 }
 
 /// What is done with the bytes that came from this sender on a channel. Refused only where memory is, and never where the sender
-/// alone is a reason.
+/// alone is a reason, nor of asks.
 pub(crate) fn decide<S: Scheme<D> + Drop, L: Elector<S, D>, D: Digest, K: Disk>(
     core: &Core<S, L, D, K>,
     sender: Participant,
@@ -48,6 +48,7 @@ pub(crate) fn decide<S: Scheme<D> + Drop, L: Elector<S, D>, D: Digest, K: Disk>(
     ensures size { AtAll S.Scheme L.Elector K.Disk core.now (λ f s h. S.size s.voter.scheme < 2 ^ 32) }
     ensures memory { OnErr result (AtOwn S.Scheme L.Elector K.Disk ⟦<S as Speaks<D>>⟧.formats core.now
         (λ f s h. (r : Refusal) → IsFirst (bytes_tests S.Scheme f s h sender channel bytes.now) (Some r) → needs_nothing r ≡ false)) }
+    ensures without_memory { channel ≡ Channel.Fetches → IsOk result }
 {
     packets_are_read_back::<S, D>();
     if let Some(refusal) = sender_refusal(core, sender) {

@@ -1,12 +1,14 @@
 //! Packets that come: each is refused or taken.
 
-ghost use Rattle.std.specs.Prelude.{◌≡◌, ◌∷◌, [], true, if◌then◌else◌, IfErr, OnErr, OnOk, ◌<◌, ◌^◌};
+ghost use Rattle.std.specs.Prelude.{◌≡◌, ◌∷◌, [], true, false, Some, if◌then◌else◌, IfErr, IsOk, OnErr, OnOk, ◌<◌, ◌^◌};
 ghost use Rattle.simplex_member.specs.declared.event.Channel.{Channel};
 ghost use Rattle.simplex_member.specs.declared.event.Event.TheVariants as event;
 ghost use Rattle.simplex_member.specs.declared.fault.NodeFault.TheVariants as step_fault;
+ghost use Rattle.simplex_member.specs.declared.refusal.Refusal.{Refusal};
 ghost use Rattle.simplex_member.specs.Deeds.{Blocks};
+ghost use Rattle.simplex_member.specs.First.{IsFirst};
 ghost use Rattle.simplex_member.specs.Packet.{Formats};
-ghost use Rattle.simplex_member.specs.Refusals.{blocks_sender};
+ghost use Rattle.simplex_member.specs.Refusals.{blocks_sender, tests};
 ghost use Rattle.node_outbox.specs.Handing.{AddsDeeds};
 ghost use Rattle.node_input.specs.Deciding.{IsDecided};
 ghost use Rattle.node_core.specs.Keeps.{AtOwn, disk_of};
@@ -38,6 +40,8 @@ pub(crate) fn handle_packet<S: Scheme<D> + Drop, L: Elector<S, D>, D: Digest, K:
     ensures handled { AtOwn S.Scheme L.Elector K.Disk ⟦<S as Speaks<D>>⟧.formats core.old (λ f s h.
         out.old.items ≡ []
         → IsHandled S.Scheme L.Elector K.Disk f s core.old core.new h (event.Packet sender channel bytes) out.new.items result) }
+    ensures ask_without_memory { channel ≡ Channel.Fetches → AtOwn S.Scheme L.Elector K.Disk ⟦<S as Speaks<D>>⟧.formats core.old (λ f s h.
+        (r : Refusal) → IsFirst (tests S.Scheme f s h (event.Packet sender channel bytes)) (Some r) → blocks_sender r ≡ false → IsOk result) }
     ensures faults { TellsOfDisk K.Disk (disk_of core.old) (disk_of core.new) result }
 {
     a_ledger_at_rest_leaves_its_record::<S, D, K>();
@@ -61,6 +65,12 @@ fn handle_decided<S: Scheme<D> + Drop, L: Elector<S, D>, D: Digest, K: Disk>(
         → IsDecided S.Scheme f s h sender (f.packet_in by bytes.items) (bytes_tests S.Scheme f s h sender by bytes.items) decided
         → out.old.items ≡ []
         → IsHandled S.Scheme L.Elector K.Disk f s core.old core.new h (event.Packet sender by bytes) out.new.items result) }
+    ensures ask_without_memory { AtOwn S.Scheme L.Elector K.Disk ⟦<S as Speaks<D>>⟧.formats core.old (λ f s h. (r : Refusal)
+        → IsDecided S.Scheme f s h sender (f.packet_in Channel.Fetches bytes.items) (bytes_tests S.Scheme f s h sender Channel.Fetches bytes.items)
+        decided
+        → IsFirst (bytes_tests S.Scheme f s h sender Channel.Fetches bytes.items) (Some r)
+        → blocks_sender r ≡ false
+        → IsOk result) }
     ensures faults { TellsOfDisk K.Disk (disk_of core.old) (disk_of core.new) result }
 {
     a_ledger_at_rest_leaves_its_record::<S, D, K>();

@@ -1,8 +1,9 @@
 //! Asks of other members.
 
-ghost use Rattle.std.specs.Prelude.{◌≡◌, IfErr, OnOk};
+ghost use Rattle.std.specs.Prelude.{◌≡◌, [], IfErr, IsOk, OnOk};
 ghost use Rattle.simplex_member.specs.declared.fault.NodeFault.TheVariants as step_fault;
 ghost use Rattle.simplex_member.specs.Allowed.{Allowed};
+ghost use Rattle.simplex_member.specs.Deeds.{deeds_of};
 ghost use Rattle.simplex_member.specs.Point.{Wanted};
 ghost use Rattle.node_core.specs.Keeps.{AtOwn};
 ghost use Rattle.node_core.specs.Taking.{IsTaken};
@@ -30,6 +31,8 @@ pub(crate) fn take_ask<S: Scheme<D> + Drop, L: Elector<S, D>, D: Digest, K: Disk
     ensures taken { OnOk result (AtOwn S.Scheme L.Elector K.Disk ⟦<S as Speaks<D>>⟧.formats core.now (λ f s h.
         Allowed S.Scheme f s h (Wanted sender view)
         → IsTaken S.Scheme L.Elector K.Disk f s core.now h (Wanted sender view) out.old.items out.new.items)) }
+    ensures without_memory { AtOwn S.Scheme L.Elector K.Disk ⟦<S as Speaks<D>>⟧.formats core.now
+        (λ f s h. deeds_of S.Scheme f s h (Wanted sender view) ≡ [] → IsOk result) }
     ensures fault { IfErr result (λ why. why ≡ step_fault.Memory) }
 {
     silent_points_leave_votes::<S, D>();

@@ -1,8 +1,12 @@
 //! An event is refused or taken.
 
-ghost use Rattle.std.specs.Prelude.{◌≡◌, []};
+ghost use Rattle.std.specs.Prelude.{◌≡◌, [], Some, IsOk, false};
 ghost use Rattle.simplex_member.specs.declared.event.Event.TheVariants as event;
+ghost use Rattle.simplex_member.specs.declared.refusal.Refusal.{Refusal};
+ghost use Rattle.simplex_member.specs.First.{IsFirst};
+ghost use Rattle.simplex_member.specs.Refusals.{blocks_sender, tests};
 ghost use Rattle.node_core.specs.Keeps.{AtOwn, disk_of};
+ghost use Rattle.node_input.specs.Asks.{IsAsk};
 ghost use Rattle.node_input.specs.Stepping.{IsAnswered, IsHandled};
 ghost use Rattle.node_core.specs.Telling.{TellsOfDisk};
 
@@ -25,6 +29,8 @@ pub fn answer<S: Scheme<D> + Drop, L: Elector<S, D>, D: Digest, K: Disk>(
 ) -> Result<Reply<S, D>, NodeFault>
     ensures answered { AtOwn S.Scheme L.Elector K.Disk ⟦<S as Speaks<D>>⟧.formats core.old
         (λ f s h. IsAnswered S.Scheme L.Elector K.Disk f s core.old core.new h event result) }
+    ensures ask_without_memory { IsAsk event → AtOwn S.Scheme L.Elector K.Disk ⟦<S as Speaks<D>>⟧.formats core.old (λ f s h.
+        (r : Refusal) → IsFirst (tests S.Scheme f s h event) (Some r) → blocks_sender r ≡ false → IsOk result) }
     ensures faults { TellsOfDisk K.Disk (disk_of core.old) (disk_of core.new) result }
 {
     let mut actions = Vec::new(core.settings.alloc);
@@ -42,6 +48,8 @@ fn handle<S: Scheme<D> + Drop, L: Elector<S, D>, D: Digest, K: Disk>(
 ) -> Result<Option<Refusal>, NodeFault>
     ensures handled { AtOwn S.Scheme L.Elector K.Disk ⟦<S as Speaks<D>>⟧.formats core.old
         (λ f s h. out.old.items ≡ [] → IsHandled S.Scheme L.Elector K.Disk f s core.old core.new h event out.new.items result) }
+    ensures ask_without_memory { IsAsk event → AtOwn S.Scheme L.Elector K.Disk ⟦<S as Speaks<D>>⟧.formats core.old (λ f s h.
+        (r : Refusal) → IsFirst (tests S.Scheme f s h event) (Some r) → blocks_sender r ≡ false → IsOk result) }
     ensures faults { TellsOfDisk K.Disk (disk_of core.old) (disk_of core.new) result }
 {
     match event {

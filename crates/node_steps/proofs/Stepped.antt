@@ -119,6 +119,13 @@ module _ {S L D P G C K : Type 0} (g : Ghosts S D P G C) (e : elector.Ghosts L S
         by (Some r) none taken = absurd (false≢true (sym none))
 
 module _ {S L D P G C K : Type 0} (g : Ghosts S D P G C) (e : elector.Ghosts L S D P G C) (k : disk.Ghosts K) (f : Formats S D P G C) (s : Setup S D C) (h : History S D P G C) (event : Event D) where
+  -- behind an event that was refused the reply is as it was
+  pub refused_told : {old mid : Core S L D K P G C} (reply : Reply S D P G C) (answer : Result (Reply S D P G C) NodeFault) → IsAnswered g e k f s old mid h event (Ok reply) → (IsSome reply.refused → IsOk answer)
+      → (r : Refusal) → IsFirst (tests g f s h event) (Some r) → IsOk answer
+  refused_told {old} {mid} reply answer answered refused r first =
+      let here : (end : History S D P G C) × StepsAtOnce g f s h event reply end × CoreKeeps g e k f s mid end = answered.ok in
+      refused (subst (λ (o : Option Refusal). IsSome o) (first-is-one (tests g f s h event) (Some r) reply.refused first here.1.0) refl)
+
   -- an event was answered, and the node went on behind it
   pub answered_whole : (old mid new : Core S L D K P G C) (reply : Reply S D P G C) (answer : Result (Reply S D P G C) NodeFault) → IsAnswered g e k f s old mid h event (Ok reply)
       → ((at : History S D P G C) → CoreKeeps g e k f s mid at → StepsAtOnce g f s h event reply at → GoesOn g e k f s mid new h at event answer) → (IsSome reply.refused → IsOk answer)
@@ -129,7 +136,7 @@ module _ {S L D P G C K : Type 0} (g : Ghosts S D P G C) (e : elector.Ghosts L S
       record {
         ok = on.ok;
         any_moment = λ it. and_then (answered.any_moment it) (on.any_moment it);
-        without_memory = λ r first needs. refused (subst (λ (o : Option Refusal). IsSome o) (first-is-one (tests g f s h event) (Some r) reply.refused first here.1.0) refl);
+        without_memory = λ r first needs. refused_told reply answer answered refused r first;
       }
 
   -- or it was not answered

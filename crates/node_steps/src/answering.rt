@@ -1,10 +1,14 @@
 //! The answer to an event, with all that is due behind it.
 
-ghost use Rattle.std.specs.Prelude.{IsOk, IsSome};
+ghost use Rattle.std.specs.Prelude.{◌≡◌, false, Some, IsOk, IsSome};
 ghost use Rattle.simplex_member.specs.declared.event.Event.{Event};
+ghost use Rattle.simplex_member.specs.declared.refusal.Refusal.{Refusal};
+ghost use Rattle.simplex_member.specs.First.{IsFirst};
 ghost use Rattle.simplex_member.specs.Point.{History};
+ghost use Rattle.simplex_member.specs.Refusals.{blocks_sender, tests};
 ghost use Rattle.node_core.specs.Keeps.{AtOwn, disk_of};
 ghost use Rattle.node_core.specs.Telling.{TellsOfDisk};
+ghost use Rattle.node_input.specs.Asks.{IsAsk};
 ghost use Rattle.node_input.specs.Stepping.{StepsAtOnce};
 ghost use Rattle.node_steps.specs.Stepping.{GoesOn, IsAnsweredWhole};
 
@@ -24,6 +28,8 @@ pub(crate) fn answer_whole<S: Scheme<D> + Drop, L: Elector<S, D>, D: Digest, K: 
 ) -> Result<Reply<S, D>, NodeFault>
     ensures answered { AtOwn S.Scheme L.Elector K.Disk ⟦<S as Speaks<D>>⟧.formats core.old
         (λ f s h. IsAnsweredWhole S.Scheme L.Elector K.Disk f s core.old core.new h event result) }
+    ensures ask_without_memory { IsAsk event → AtOwn S.Scheme L.Elector K.Disk ⟦<S as Speaks<D>>⟧.formats core.old (λ f s h.
+        (r : Refusal) → IsFirst (tests S.Scheme f s h event) (Some r) → blocks_sender r ≡ false → IsOk result) }
     ensures faults { TellsOfDisk K.Disk (disk_of core.old) (disk_of core.new) result }
 {
     match answer(core, event) {

@@ -5,7 +5,8 @@ ghost use Rattle.journal_single.specs.Disk.{LeavesOnly, counted};
 ghost use Rattle.simplex_member.specs.First.{IsFirst};
 ghost use Rattle.simplex_member.specs.Member.{IsReached, Steps};
 ghost use Rattle.simplex_member.specs.Point.{History};
-ghost use Rattle.simplex_member.specs.Refusals.{needs_nothing, tests};
+ghost use Rattle.simplex_member.specs.Refusals.{blocks_sender, needs_nothing, tests};
+ghost use Rattle.node_input.specs.Asks.{IsAsk};
 ghost use Rattle.node_steps.specs.Keeps.{AtOwn, NodeKeeps, disk_of, has_failed};
 
 use crate::answering::answer_whole;
@@ -42,6 +43,10 @@ impl<S: Scheme<D> + Drop, L: Elector<S, D>, D: Digest, K: Disk> Node<S, L, D, K>
         // Refusals that ask for neither memory nor the disk are always answered.
         ensures without_memory { AtOwn S.Scheme L.Elector K.Disk ⟦<S as Speaks<D>>⟧.formats self.old
             (λ f s h. (r : Refusal) → IsFirst (tests S.Scheme f s h event) (Some r) → needs_nothing r ≡ true → IsOk result) }
+
+        // So is that of an ask, unless its sender is blocked.
+        ensures ask_without_memory { IsAsk event → AtOwn S.Scheme L.Elector K.Disk ⟦<S as Speaks<D>>⟧.formats self.old (λ f s h.
+            (r : Refusal) → IsFirst (tests S.Scheme f s h event) (Some r) → blocks_sender r ≡ false → IsOk result) }
     {
         if self.failed {
             return Err(NodeFault::Failed);

@@ -26,7 +26,7 @@ returns-in-Ok-Some-clause-decided g c = λ s h k.
     let none : IsFirst (sender_tests g.S.Scheme f s c.args.sender) None = c.in_default.ensures.first f s h k in
     let small = c.in_default.ensures.size f s h k in
     let size = c.participants-participants.ensures.value ∙ ap g.S.Scheme.size (c.deref.ensures ∙ k.set_up.scheme_is) in
-    let found = sym (subst (λ (n : ℕ). Some x ≡ packet_at (g.D.Read.reading n) (g.S.Signature.Read.reading n) (g.S.Certificate.Read.reading n) c.args.channel c.args.bytes.now) size (rw c.in-Ok-Some.field-0-is at c.in-Ok-Some.ensures)) in
+    let found = sym (subst (λ (n : ℕ). Some x ≡ packet_at (g.D.Read.reading n) (g.S.Signature.Read.reading n) (g.S.Certificate.Read.reading n) c.args.channel c.args.bytes.now) size (rw c.in-Ok-Some.field-0-is at c.in-Ok-Some.ensures.found)) in
     let read : IsReadable f x = (c.args.bytes.now, subst (λ (by : Channel). f.packet_in by c.args.bytes.now ≡ Some x) (sym ((c.packets_are_read_back.ensures.read_back (g.S.Scheme.size s.voter.scheme) small).by_channel c.args.channel c.args.bytes.now x found)) found) in
     let behind = decided-behind g.S.Scheme f s h c.args.sender (Some x) c.decide_message.result none (c.decide_message.ensures s h k (c.in_default.ensures.may f s h k) small read) in
     subst (λ (o : Option (Packet g.row.S.Denot g.row.D.Denot g.row.S-PublicKey.Denot g.row.S-Signature.Denot g.row.S-Certificate.Denot)). IsDecided g.S.Scheme f s h c.args.sender o (sender_tests g.S.Scheme f s c.args.sender ++ packet_tests g.S.Scheme f s h c.args.sender o) c.decide_message.result) (sym found) behind

@@ -1,7 +1,9 @@
 use Rattle.std.proofs.Common.{None, Some, Ok, Err, Option, refl, sym, subst}
+use Rattle.std.proofs.lemmas.Option.{none-some, same_Some}
 use Rattle.std.proofs.lemmas.Result.{IfOk-weaker}
 use Rattle.types_codec.specs.Codec.{bounded-IsCodec}
 use Rattle.messages_certificates.specs.Certificate.{any_certificate-IsCodec}
+use Rattle.simplex_member.specs.declared.event.Channel.TheVariants as channel
 use Rattle.simplex_member.specs.declared.event.Event.TheVariants as event
 use Rattle.simplex_member.specs.declared.refusal.Refusal.{Refusal}
 use Rattle.simplex_member.specs.Member.{IsPacketPoint}
@@ -11,6 +13,9 @@ use Rattle.simplex_member.specs.Recorded.{record_of}
 use Rattle.simplex_member.specs.Setup.{owner_of}
 use Rattle.node_inbox.specs.Reading.{certificate-spelled}
 use Rattle.node_core.specs.Keeps.{disk_of}
+use Rattle.node_input.specs.Refusing.{bytes_tests}
+use Rattle.node_input.proofs.Refusals.{asks-no-vote}
+use Rattle.node_input.proofs.Tests.{first-is-one}
 use Rattle.node_input.proofs.Replying.{from-nothing, heard-handled, none-due, point-reached, refused-handled, refused-unhandled, rest-reached, stepped, still-reached, unasked}
 use Rattle.node_input.proofs.receiving.handle_decided.Goals as goal
 
@@ -99,3 +104,28 @@ returns-in-Ok-take_ask-clause-faults g c = unasked g.K.Disk (disk_of c.args.core
 
 pub returns-clause-faults : goal.returns-clause-faults
 returns-clause-faults g c = unasked g.K.Disk (disk_of c.args.core.now) (disk_of c.args.core.now) (Err c.in-Err-take_ask.fault) refl c.in-Err-take_ask.ensures.fault
+
+-- an ask that is refused is told, if nobody is blocked
+pub returns-in-Refused-clause-ask_without_memory : goal.returns-in-Refused-clause-ask_without_memory
+returns-in-Refused-clause-ask_without_memory g c = λ s h k r decided first quiet.
+    let f = formats {S = g.row.S.Denot} {P = g.row.S-PublicKey.Denot} g.D.PartialEq.eq g.D.Write.spelling g.S.Signature.Write.spelling g.S.Certificate.Write.spelling g.D.Read.reading g.S.Signature.Read.reading g.S.Certificate.Read.reading (g.S.Scheme.size s.voter.scheme) in
+    let d = rw c.in-Refused.is at decided in
+    let same = first-is-one (bytes_tests g.S.Scheme f s h c.args.sender channel.Fetches c.args.bytes.items) (Some c.in-Refused.refusal) (Some r) d.0 first in
+    absurd (cc (c.in-Err.ensures.memory, same_Some c.in-Refused.refusal r same, quiet))
+
+pub returns-in-Vote-clause-ask_without_memory : goal.returns-in-Vote-clause-ask_without_memory
+returns-in-Vote-clause-ask_without_memory g c = λ s h k r decided first quiet.
+    let d = rw c.in-Vote.is at decided in
+    absurd (asks-no-vote _ c.in-Vote.vote d.0)
+
+pub returns-in-Certificate-clause-ask_without_memory : goal.returns-in-Certificate-clause-ask_without_memory
+returns-in-Certificate-clause-ask_without_memory g c = λ s h k r decided first quiet.
+    let f = formats {S = g.row.S.Denot} {P = g.row.S-PublicKey.Denot} g.D.PartialEq.eq g.D.Write.spelling g.S.Signature.Write.spelling g.S.Certificate.Write.spelling g.D.Read.reading g.S.Signature.Read.reading g.S.Certificate.Read.reading (g.S.Scheme.size s.voter.scheme) in
+    let d = rw c.in-Certificate.is at decided in
+    absurd (none-some r (first-is-one (bytes_tests g.S.Scheme f s h c.args.sender channel.Fetches c.args.bytes.items) None (Some r) d.1 first))
+
+pub returns-clause-ask_without_memory : goal.returns-clause-ask_without_memory
+returns-clause-ask_without_memory g c = λ s h k r decided first quiet.
+    let f = formats {S = g.row.S.Denot} {P = g.row.S-PublicKey.Denot} g.D.PartialEq.eq g.D.Write.spelling g.S.Signature.Write.spelling g.S.Certificate.Write.spelling g.D.Read.reading g.S.Signature.Read.reading g.S.Certificate.Read.reading (g.S.Scheme.size s.voter.scheme) in
+    let d = rw c.in-Ask.is at decided in
+    absurd (none-some r (first-is-one (bytes_tests g.S.Scheme f s h c.args.sender channel.Fetches c.args.bytes.items) None (Some r) d.1 first))

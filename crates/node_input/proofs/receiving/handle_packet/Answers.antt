@@ -1,4 +1,5 @@
 use Rattle.std.proofs.Common.{sym, subst, Some, List, ℕ}
+use Rattle.simplex_member.specs.declared.event.Channel.{Channel}
 use Rattle.simplex_member.specs.declared.event.Event.TheVariants as event
 use Rattle.simplex_member.specs.Packet.{formats}
 use Rattle.simplex_member.specs.Recorded.{record_of}
@@ -23,3 +24,14 @@ returns-in-Err-clause-handled g c = λ s h k none.
       any_moment = λ keeps. rest-reached (event.Packet c.args.sender c.args.channel c.args.bytes) (c.a_ledger_at_rest_leaves_its_record.ensures (owner_of s) c.args.core.now.ledger (record_of h) k.ledger keeps);
       without_memory = λ r first needs. absurd (cc (c.in-Err.ensures.memory s h k r (subst (λ (l : List ℕ). IsFirst (bytes_tests g.S.Scheme f s h c.args.sender c.args.channel l) (Some r)) (sym c.deref.ensures.value) first), needs));
     }
+
+pub returns-in-Ok-clause-ask_without_memory : goal.returns-in-Ok-clause-ask_without_memory
+returns-in-Ok-clause-ask_without_memory g c = λ is s h k r first quiet.
+    let f = formats {S = g.row.S.Denot} {P = g.row.S-PublicKey.Denot} g.D.PartialEq.eq g.D.Write.spelling g.S.Signature.Write.spelling g.S.Certificate.Write.spelling g.D.Read.reading g.S.Signature.Read.reading g.S.Certificate.Read.reading (g.S.Scheme.size s.voter.scheme) in
+    let decided = subst (λ (l : List ℕ). IsDecided g.S.Scheme f s h c.args.sender (f.packet_in c.args.channel l) (bytes_tests g.S.Scheme f s h c.args.sender c.args.channel l) c.in-Ok.decided) c.deref.ensures.value (c.in-Ok.ensures.decided s h k) in
+    c.handle_decided.ensures.ask_without_memory s h k r
+    (subst (λ (by : Channel). IsDecided g.S.Scheme f s h c.args.sender (f.packet_in by c.args.bytes.items) (bytes_tests g.S.Scheme f s h c.args.sender by c.args.bytes.items) c.in-Ok.decided) is decided)
+    (subst (λ (by : Channel). IsFirst (bytes_tests g.S.Scheme f s h c.args.sender by c.args.bytes.items) (Some r)) is first) quiet
+
+pub returns-in-Err-clause-ask_without_memory : goal.returns-in-Err-clause-ask_without_memory
+returns-in-Err-clause-ask_without_memory g c = λ is s h k r first quiet. absurd (cc (c.in-Err.ensures.without_memory is))

@@ -16,3 +16,7 @@ returns-in-Err-clause-any_moment g c = λ s h k.
 pub returns-in-Err-clause-without_memory : goal.returns-in-Err-clause-without_memory
 returns-in-Err-clause-without_memory g c = λ s h k.
     (c.in-Err.ensures.answered s h k.core).without_memory
+
+pub returns-in-Err-clause-ask_without_memory : goal.returns-in-Err-clause-ask_without_memory
+returns-in-Err-clause-ask_without_memory g c = λ is s h k.
+    c.in-Err.ensures.ask_without_memory is s h k.core
