@@ -23,14 +23,14 @@ module _ {S D P G C : Type 0} (g : Ghosts S D P G C) (f : Formats S D P G C) (s 
       let put : record_of (p ∷ h) ≡ record_of h ++ x ∷ [] = ap (put_behind (record_of h)) is in
       reads ∙ sym (ap (map f.artifact) put ∙ map-append f.artifact (record_of h) (x ∷ []))
 
-  module _ {K : Type 0} (k : disk.Ghosts K) (old new : Books (Artifact S D P G C) K) where
+  module _ {K : Type 0} (k : disk.Ghosts K) where
     -- where a crash leaves the record with what a point records or without it, it leaves what taking the point may leave
-    pub left_by : (h : History S D P G C) (p : Point S D P G C) (x : Artifact S D P G C) → recorded_by p ≡ Some x → Allowed g f s h p
+    pub left_by : (h : History S D P G C) (p : Point S D P G C) (x : Artifact S D P G C) (old new : Books (Artifact S D P G C) K) → recorded_by p ≡ Some x → Allowed g f s h p
         → LeaveBook k old new (IsWithOrWithout (map f.artifact (record_of h)) (f.artifact x)) → LeaveBook k old new (IsLeftBy g f s h p)
-    left_by h p x is allowed leaves =
+    left_by h p x old new is allowed leaves =
         book_weaker k (IsWithOrWithout (map f.artifact (record_of h)) (f.artifact x)) (IsLeftBy g f s h p)
         (λ read either. ⊎_elim (λ before. inl before) (λ behind. inr (allowed, read_behind h p x read is behind)) either) old new leaves
 
     -- where it leaves the record, it does too
-    pub left_at_rest : (h : History S D P G C) (p : Point S D P G C) → LeaveBook k old new (λ read. read ≡ map f.artifact (record_of h)) → LeaveBook k old new (IsLeftBy g f s h p)
-    left_at_rest h p leaves = book_weaker k (λ read. read ≡ map f.artifact (record_of h)) (IsLeftBy g f s h p) (λ read is. inl is) old new leaves
+    pub left_at_rest : (h : History S D P G C) (p : Point S D P G C) (old new : Books (Artifact S D P G C) K) → LeaveBook k old new (λ read. read ≡ map f.artifact (record_of h)) → LeaveBook k old new (IsLeftBy g f s h p)
+    left_at_rest h p old new leaves = book_weaker k (λ read. read ≡ map f.artifact (record_of h)) (IsLeftBy g f s h p) (λ read is. inl is) old new leaves

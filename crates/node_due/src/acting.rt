@@ -3,7 +3,7 @@
 ghost use Rattle.node_requests.specs.Asking.{is_poll, is_none, is_silent};
 ghost use Rattle.simplex_member.specs.Member.{NoneDue};
 ghost use Rattle.node_due.specs.Acting.{WasSettled, WasTried};
-ghost use Rattle.node_core.specs.Keeps.{AtOwn, disk_of};
+ghost use Rattle.node_core.specs.Keeps.{AtOwn, disks_of};
 ghost use Rattle.node_due.specs.NoneDue.{NoVoteToCast, NothingByVotes, NothingMoreToAsk, NothingToAskOnProposals};
 ghost use Rattle.node_core.specs.Telling.{TellsOfDisk};
 
@@ -34,7 +34,7 @@ pub fn settle<S: Scheme<D> + Drop, L: Elector<S, D>, D: Digest, K: Disk>(
 ) -> Result<(), NodeFault>
     ensures settled { AtOwn S.Scheme L.Elector K.Disk ⟦<S as Speaks<D>>⟧.formats core.old
         (λ f s h. WasSettled S.Scheme L.Elector K.Disk f s core.old core.new h out.old.items out.new.items result) }
-    ensures faults { TellsOfDisk K.Disk (disk_of core.old) (disk_of core.new) result }
+    ensures faults { TellsOfDisk K.Disk (disks_of core.old) (disks_of core.new) result }
 {
     a_ledger_at_rest_leaves_its_record::<S, D, K>();
     acts_end::<S, D>();
@@ -58,7 +58,7 @@ fn act<S: Scheme<D> + Drop, L: Elector<S, D>, D: Digest, K: Disk>(
 ) -> Result<Acted, NodeFault>
     ensures tried { AtOwn S.Scheme L.Elector K.Disk ⟦<S as Speaks<D>>⟧.formats core.old (λ f s h.
         WasTried S.Scheme L.Elector K.Disk f s is_silent (NoneDue S.Scheme f s) core.old core.new h out.old.items out.new.items result) }
-    ensures faults { TellsOfDisk K.Disk (disk_of core.old) (disk_of core.new) result }
+    ensures faults { TellsOfDisk K.Disk (disks_of core.old) (disks_of core.new) result }
 {
     a_latch_changes_nothing_due::<S, D>();
     match ask_on_proposals(core, out) {
@@ -87,7 +87,7 @@ fn ask_on_proposals<S: Scheme<D> + Drop, L: Elector<S, D>, D: Digest, K: Disk>(
     ensures tried { AtOwn S.Scheme L.Elector K.Disk ⟦<S as Speaks<D>>⟧.formats core.old (λ f s h.
         WasTried S.Scheme L.Elector K.Disk f s is_silent (NothingToAskOnProposals S.Scheme f s) core.old core.new h out.old.items
         out.new.items result) }
-    ensures faults { TellsOfDisk K.Disk (disk_of core.old) (disk_of core.new) result }
+    ensures faults { TellsOfDisk K.Disk (disks_of core.old) (disks_of core.new) result }
 {
     a_latch_changes_nothing_due::<S, D>();
     match try_verdicts(core, out) {
@@ -105,7 +105,7 @@ fn go_by_votes<S: Scheme<D> + Drop, L: Elector<S, D>, D: Digest, K: Disk>(
 ) -> Result<Acted, NodeFault>
     ensures tried { AtOwn S.Scheme L.Elector K.Disk ⟦<S as Speaks<D>>⟧.formats core.old (λ f s h.
         WasTried S.Scheme L.Elector K.Disk f s is_none (NothingByVotes S.Scheme f s) core.old core.new h out.old.items out.new.items result) }
-    ensures faults { TellsOfDisk K.Disk (disk_of core.old) (disk_of core.new) result }
+    ensures faults { TellsOfDisk K.Disk (disks_of core.old) (disks_of core.new) result }
 {
     match try_leader(core) {
         Ok(Acted::Nothing) => {}
@@ -128,7 +128,7 @@ fn ask_for_more<S: Scheme<D> + Drop, L: Elector<S, D>, D: Digest, K: Disk>(
     ensures tried { AtOwn S.Scheme L.Elector K.Disk ⟦<S as Speaks<D>>⟧.formats core.old (λ f s h.
         WasTried S.Scheme L.Elector K.Disk f s is_none (NothingMoreToAsk S.Scheme f s) core.old core.new h out.old.items out.new.items
         result) }
-    ensures faults { TellsOfDisk K.Disk (disk_of core.old) (disk_of core.new) result }
+    ensures faults { TellsOfDisk K.Disk (disks_of core.old) (disks_of core.new) result }
 {
     match try_return(core) {
         Ok(Acted::Nothing) => {}
@@ -155,7 +155,7 @@ fn vote<S: Scheme<D> + Drop, L: Elector<S, D>, D: Digest, K: Disk>(
 ) -> Result<Acted, NodeFault>
     ensures tried { AtOwn S.Scheme L.Elector K.Disk ⟦<S as Speaks<D>>⟧.formats core.old (λ f s h.
         WasTried S.Scheme L.Elector K.Disk f s is_poll (NoVoteToCast S.Scheme f s) core.old core.new h out.old.items out.new.items result) }
-    ensures faults { TellsOfDisk K.Disk (disk_of core.old) (disk_of core.new) result }
+    ensures faults { TellsOfDisk K.Disk (disks_of core.old) (disks_of core.new) result }
 {
     a_latch_changes_nothing_due::<S, D>();
     match try_notarize(core, out) {

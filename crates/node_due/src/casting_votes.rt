@@ -6,7 +6,7 @@ ghost use Rattle.node_votes.specs.KeepsVotes.{IsOpenTo};
 ghost use Rattle.simplex_messages.specs.declared.activity.Activity.{Activity};
 ghost use Rattle.simplex_messages.specs.declared.vote.Vote.{Vote};
 ghost use Rattle.simplex_messages.specs.VoteParts.{vote_round};
-ghost use Rattle.journal_single.specs.Disk.{LeavesOnly};
+ghost use Rattle.simplex_books.specs.Books.{LeaveBook};
 ghost use Rattle.node_requests.specs.Asking.{is_poll, is_none};
 ghost use Rattle.node_requests.specs.declared.acted.Acted.TheVariants as came;
 ghost use Rattle.voter_history.specs.History.{seen};
@@ -21,7 +21,7 @@ ghost use Rattle.simplex_member.specs.Setup.{Setup};
 ghost use Rattle.node_outbox.specs.Handing.{AddsDeeds};
 ghost use Rattle.node_due.specs.Acting.{WasTried};
 ghost use Rattle.node_due.specs.Ahead.{MayCome, VoterIsAhead};
-ghost use Rattle.node_core.specs.Keeps.{AtOwn, disk_of};
+ghost use Rattle.node_core.specs.Keeps.{AtOwn, book_of, disks_of};
 ghost use Rattle.node_due.specs.NoneDue.{NoFinalizeToCast, NoNotarizeToCast, NoNullifyToCast};
 ghost use Rattle.node_core.specs.Telling.{TellsOfDisk};
 ghost use Rattle.node_core.specs.Taking.{IsLeftBy, IsTaken};
@@ -58,7 +58,7 @@ pub(crate) fn try_notarize<S: Scheme<D> + Drop, L: Elector<S, D>, D: Digest, K: 
 ) -> Result<Acted, NodeFault>
     ensures tried { AtOwn S.Scheme L.Elector K.Disk ⟦<S as Speaks<D>>⟧.formats core.old (λ f s h.
         WasTried S.Scheme L.Elector K.Disk f s is_none (NoNotarizeToCast s) core.old core.new h out.old.items out.new.items result) }
-    ensures faults { TellsOfDisk K.Disk (disk_of core.old) (disk_of core.new) result }
+    ensures faults { TellsOfDisk K.Disk (disks_of core.old) (disks_of core.new) result }
 {
     proposals_lie_in_their_views::<S, D>();
     due_may_be_recorded::<S, D>();
@@ -84,7 +84,7 @@ pub(crate) fn try_finalize<S: Scheme<D> + Drop, L: Elector<S, D>, D: Digest, K: 
 ) -> Result<Acted, NodeFault>
     ensures tried { AtOwn S.Scheme L.Elector K.Disk ⟦<S as Speaks<D>>⟧.formats core.old (λ f s h.
         WasTried S.Scheme L.Elector K.Disk f s is_none (NoFinalizeToCast s) core.old core.new h out.old.items out.new.items result) }
-    ensures faults { TellsOfDisk K.Disk (disk_of core.old) (disk_of core.new) result }
+    ensures faults { TellsOfDisk K.Disk (disks_of core.old) (disks_of core.new) result }
 {
     proposals_lie_in_their_views::<S, D>();
     due_may_be_recorded::<S, D>();
@@ -109,7 +109,7 @@ pub(crate) fn try_nullify<S: Scheme<D> + Drop, L: Elector<S, D>, D: Digest, K: D
 ) -> Result<Acted, NodeFault>
     ensures tried { AtOwn S.Scheme L.Elector K.Disk ⟦<S as Speaks<D>>⟧.formats core.old (λ f s h.
         WasTried S.Scheme L.Elector K.Disk f s is_poll (NoNullifyToCast S.Scheme f s) core.old core.new h out.old.items out.new.items result) }
-    ensures faults { TellsOfDisk K.Disk (disk_of core.old) (disk_of core.new) result }
+    ensures faults { TellsOfDisk K.Disk (disks_of core.old) (disks_of core.new) result }
 {
     voters_are_orderly::<S, D>();
     a_ledger_at_rest_leaves_its_record::<S, D, K>();
@@ -131,7 +131,7 @@ fn give_up<S: Scheme<D> + Drop, L: Elector<S, D>, D: Digest, K: Disk>(
         → RetryIsKnown S.Scheme f s h
         → WasTried S.Scheme L.Elector K.Disk f s is_none (NoNullifyToCast S.Scheme f s) core.old core.new h out.old.items out.new.items
         result) }
-    ensures faults { TellsOfDisk K.Disk (disk_of core.old) (disk_of core.new) result }
+    ensures faults { TellsOfDisk K.Disk (disks_of core.old) (disks_of core.new) result }
 {
     due_may_be_recorded::<S, D>();
     a_ledger_at_rest_leaves_its_record::<S, D, K>();
@@ -163,7 +163,7 @@ fn repeat_nullify<S: Scheme<D> + Drop, L: Elector<S, D>, D: Digest, K: Disk>(
         → RetryIsKnown S.Scheme f s h
         → WasTried S.Scheme L.Elector K.Disk f s is_none (NoNullifyToCast S.Scheme f s) core.old core.new h out.old.items out.new.items
         result) }
-    ensures faults { TellsOfDisk K.Disk (disk_of core.old) (disk_of core.new) result }
+    ensures faults { TellsOfDisk K.Disk (disks_of core.old) (disks_of core.new) result }
 {
     known_nullifies_are_recorded::<S, D>();
     records_stay_lawful::<S, D>();
@@ -211,8 +211,8 @@ fn cast<S: Scheme<D> + Drop, L: Elector<S, D>, D: Digest, K: Disk>(
         → let f = (⟦<S as Speaks<D>>⟧.formats (S.size s.voter.scheme)) in VoterIsAhead S.Scheme L.Elector K.Disk f s core.old h (Votes vote)
         → MayCome S.Scheme f s (IsRecordable f) h (Votes vote)
         → K.keeps
-        → LeavesOnly (K.calls (disk_of core.old)) (K.calls (disk_of core.new)) (IsLeftBy S.Scheme f s h (Votes vote)) }
-    ensures faults { TellsOfDisk K.Disk (disk_of core.old) (disk_of core.new) result }
+        → LeaveBook K.Disk (book_of core.old) (book_of core.new) (IsLeftBy S.Scheme f s h (Votes vote)) }
+    ensures faults { TellsOfDisk K.Disk (disks_of core.old) (disks_of core.new) result }
 {
     a_ledger_at_rest_leaves_its_record::<S, D, K>();
     quiet_points_leave_the_tables::<S, D>();
