@@ -8,8 +8,8 @@ use Rattle.node_votes.specs.KeepsVotes as accepting
 use Rattle.simplex_resolver.specs.Keeps as repairing
 use Rattle.messages_certificates.specs.declared.artifact.Artifact.{Artifact}
 use Rattle.journal_single.specs.declared.disk.Disk as disk
-use Rattle.simplex_books.specs.declared.books.Books.{Books}
-use Rattle.simplex_books.specs.declared.disks.Disks.{Disks}
+use Rattle.journal_books.specs.declared.books.Books.{Books}
+use Rattle.journal_books.specs.declared.disks.Disks.{Disks}
 use Rattle.node_record.specs.Ledger as ledgers
 use Rattle.node_record.specs.Ledger.{KeepsRecord}
 use Rattle.node_record.specs.Tables.{KeepsTables}

@@ -2,9 +2,9 @@
 use Rattle.std.specs.Prelude.{◌≡◌, ◌≢◌, Result, Ok, Err, IfErr, IsErrOf, OnOk}
 use Rattle.std.proofs.Common.{◌∙◌}
 use Rattle.journal_single.specs.declared.disk.Disk as disk
-use Rattle.simplex_books.specs.declared.disks.Disks.{Disks}
-use Rattle.simplex_books.specs.Books.{HasFailed, HasNotFailed}
-use Rattle.simplex_books.specs.BooksLaws.{failed_then, not_failed_then}
+use Rattle.journal_books.specs.declared.disks.Disks.{Disks}
+use Rattle.journal_books.specs.Books.{HasFailed, HasNotFailed}
+use Rattle.journal_books.specs.BooksLaws.{failed_then, not_failed_then}
 use Rattle.simplex_member.specs.declared.fault.NodeFault.{NodeFault}
 use Rattle.simplex_member.specs.declared.fault.NodeFault.TheVariants as step_fault
 

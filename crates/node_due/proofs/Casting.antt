@@ -43,10 +43,10 @@ use Rattle.node_votes.specs.declared.acceptance.Acceptance.{Acceptance}
 use Rattle.node_votes.specs.KeepsVotes as accepting
 use Rattle.node_votes.specs.KeepsVotes.{IsOpenTo, QuietStays}
 use Rattle.journal_single.specs.declared.disk.Disk as disk
-use Rattle.simplex_books.specs.declared.books.Books.{Books}
-use Rattle.simplex_books.specs.declared.disks.Disks.{Disks}
-use Rattle.simplex_books.specs.Books.{HasFailed, HasNotFailed, LeaveBook}
-use Rattle.simplex_books.specs.BooksLaws.{book_weaker}
+use Rattle.journal_books.specs.declared.books.Books.{Books}
+use Rattle.journal_books.specs.declared.disks.Disks.{Disks}
+use Rattle.journal_books.specs.Books.{HasFailed, HasNotFailed, LeaveBook}
+use Rattle.journal_books.specs.BooksLaws.{book_weaker}
 use Rattle.node_record.specs.declared.ledger.Ledger.{Ledger}
 use Rattle.node_record.specs.Ledger.{KeepsRecord}
 use Rattle.node_record.specs.Recorded.{IsLastNullifyOf}

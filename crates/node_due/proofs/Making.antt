@@ -29,9 +29,9 @@ use Rattle.simplex_resolver.specs.declared.state.State as resolving
 use Rattle.simplex_resolver.specs.Keeps as repairing
 use Rattle.simplex_resolver.specs.RepairHistory.{item_of}
 use Rattle.journal_single.specs.declared.disk.Disk as disk
-use Rattle.simplex_books.specs.declared.books.Books.{Books}
-use Rattle.simplex_books.specs.Books.{IsWithOrWithout, LeaveBook}
-use Rattle.simplex_books.specs.BooksLaws.{book_weaker}
+use Rattle.journal_books.specs.declared.books.Books.{Books}
+use Rattle.journal_books.specs.Books.{IsWithOrWithout, LeaveBook}
+use Rattle.journal_books.specs.BooksLaws.{book_weaker}
 use Rattle.node_record.specs.declared.ledger.Ledger.{Ledger}
 use Rattle.node_record.specs.declared.tables.Tables.{Tables}
 use Rattle.node_record.specs.Ledger.{KeepsRecord}

@@ -8,8 +8,8 @@ use Rattle.voter_history.specs.declared.timeout_reason.TimeoutReason.TheVariants
 use Rattle.types_terms.specs.declared.elector.Elector as elector
 use Rattle.simplex_resolver.specs.declared.ask.Ask.{Ask}
 use Rattle.journal_single.specs.declared.disk.Disk as disk
-use Rattle.simplex_books.specs.Books.{LeaveBook}
-use Rattle.simplex_books.specs.BooksLaws.{book_then, book_weaker}
+use Rattle.journal_books.specs.Books.{LeaveBook}
+use Rattle.journal_books.specs.BooksLaws.{book_then, book_weaker}
 use Rattle.simplex_member.specs.declared.action.Action.{Action}
 use Rattle.simplex_member.specs.declared.fault.NodeFault.{NodeFault}
 use Rattle.simplex_member.specs.Allowed.{AskIsDue, LatchIsDue}

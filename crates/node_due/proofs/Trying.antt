@@ -10,8 +10,8 @@ use Rattle.voter_history.specs.History as views
 use Rattle.voter_history.specs.declared.timeout_reason.TimeoutReason.TheVariants as reason
 use Rattle.types_terms.specs.declared.elector.Elector as elector
 use Rattle.journal_single.specs.declared.disk.Disk as disk
-use Rattle.simplex_books.specs.Books.{LeaveBook}
-use Rattle.simplex_books.specs.BooksLaws.{book_weaker}
+use Rattle.journal_books.specs.Books.{LeaveBook}
+use Rattle.journal_books.specs.BooksLaws.{book_weaker}
 use Rattle.simplex_state.specs.declared.state.State.{State}
 use Rattle.simplex_state.specs.State as voting
 use Rattle.simplex_resolver.specs.Keeps as repairing

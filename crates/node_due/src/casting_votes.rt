@@ -6,7 +6,7 @@ ghost use Rattle.node_votes.specs.KeepsVotes.{IsOpenTo};
 ghost use Rattle.simplex_messages.specs.declared.activity.Activity.{Activity};
 ghost use Rattle.simplex_messages.specs.declared.vote.Vote.{Vote};
 ghost use Rattle.simplex_messages.specs.VoteParts.{vote_round};
-ghost use Rattle.simplex_books.specs.Books.{LeaveBook};
+ghost use Rattle.journal_books.specs.Books.{LeaveBook};
 ghost use Rattle.node_requests.specs.Asking.{is_poll, is_none};
 ghost use Rattle.node_requests.specs.declared.acted.Acted.TheVariants as came;
 ghost use Rattle.voter_history.specs.History.{seen};

@@ -5,7 +5,7 @@ ghost use Rattle.messages_certificates.specs.Artifact.{artifact_fits};
 ghost use Rattle.messages_certificates.specs.declared.certificate.Certificate.{Certificate};
 ghost use Rattle.types_terms.specs.declared.kind.Kind.{Kind};
 ghost use Rattle.batcher_verifier.specs.declared.batch.Batch.{Batch};
-ghost use Rattle.simplex_books.specs.Books.{LeaveBook};
+ghost use Rattle.journal_books.specs.Books.{LeaveBook};
 ghost use Rattle.node_requests.specs.Asking.{is_none};
 ghost use Rattle.node_requests.specs.declared.acted.Acted.TheVariants as came;
 ghost use Rattle.node_outbox.specs.Handing.{AddsDeeds};

@@ -6,7 +6,7 @@ ghost use Rattle.messages_certificates.specs.declared.artifact.Artifact.{Artifac
 ghost use Rattle.simplex_record.specs.declared.owner.Owner.{Owner};
 ghost use Rattle.simplex_record.specs.Record.{entry, entries};
 ghost use Rattle.simplex_record.specs.Rules.{MayFollow};
-ghost use Rattle.simplex_books.specs.Books.{HasFailed, HasNotFailed, IsWithOrWithout, LeaveBook};
+ghost use Rattle.journal_books.specs.Books.{HasFailed, HasNotFailed, IsWithOrWithout, LeaveBook};
 ghost use Rattle.simplex_member.specs.declared.fault.NodeFault.{NodeFault};
 ghost use Rattle.simplex_member.specs.declared.fault.NodeFault.TheVariants as step_fault;
 ghost use Rattle.node_record.specs.Ledger.{KeepsRecord, book_of, disks_of};
@@ -27,6 +27,7 @@ const LONGEST: usize = u32::MAX as usize - 1;
 ///
 /// [`NodeFault::Device`] where a disk failed, and else [`NodeFault::Memory`]. Behind an error nothing is said of the ledger, but that a
 /// crash leaves the record with the artifact or without it.
+#[tactic(auto, using(journal_books::specs::BooksLaws::same_not_failed))]
 pub fn record<S: Scheme<D>, D: Digest, K: Disk>(
     ledger: &mut Ledger<S, D, K>,
     artifact: Artifact<S, D>,

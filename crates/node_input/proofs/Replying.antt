@@ -9,11 +9,11 @@ use Rattle.types_core.specs.declared.scheme.Scheme.{Ghosts}
 use Rattle.types_terms.specs.declared.elector.Elector as elector
 use Rattle.journal_single.specs.declared.disk.Disk as disk
 use Rattle.messages_certificates.specs.declared.artifact.Artifact.{Artifact}
-use Rattle.simplex_books.specs.declared.books.Books.{Books}
-use Rattle.simplex_books.specs.declared.disks.Disks.{Disks}
-use Rattle.simplex_books.specs.Books as words
-use Rattle.simplex_books.specs.Books.{LeaveBook}
-use Rattle.simplex_books.specs.BooksLaws.{book_weaker, same_not_failed}
+use Rattle.journal_books.specs.declared.books.Books.{Books}
+use Rattle.journal_books.specs.declared.disks.Disks.{Disks}
+use Rattle.journal_books.specs.Books as words
+use Rattle.journal_books.specs.Books.{LeaveBook}
+use Rattle.journal_books.specs.BooksLaws.{book_weaker, same_not_failed}
 use Rattle.simplex_member.specs.declared.action.Action.{Action}
 use Rattle.simplex_member.specs.declared.event.Channel.{Channel}
 use Rattle.simplex_member.specs.declared.event.Event.{Event}

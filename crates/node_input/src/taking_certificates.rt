@@ -1,7 +1,7 @@
 //! Certificates that came.
 
 ghost use Rattle.std.specs.Prelude.{◌≡◌, ◌≢◌, ◌∷◌, false, IfErr, OnOk, IsErrOf};
-ghost use Rattle.simplex_books.specs.Books.{HasFailed, HasNotFailed, LeaveBook};
+ghost use Rattle.journal_books.specs.Books.{HasFailed, HasNotFailed, LeaveBook};
 ghost use Rattle.simplex_member.specs.Allowed.{Allowed};
 ghost use Rattle.simplex_member.specs.declared.fault.NodeFault.{NodeFault};
 ghost use Rattle.simplex_member.specs.declared.fault.NodeFault.TheVariants as step_fault;
@@ -57,6 +57,7 @@ pub(crate) fn take_certificate<S: Scheme<D> + Drop, L: Elector<S, D>, D: Digest,
 }
 
 /// All layers learn of a certificate that passed all tests, and it is recorded.
+#[tactic(auto, using(journal_books::specs::BooksLaws::same_not_failed))]
 fn learn<S: Scheme<D> + Drop, L: Elector<S, D>, D: Digest, K: Disk>(
     core: &mut Core<S, L, D, K>,
     certificate: &Certificate<S, D>,

@@ -7,7 +7,7 @@ ghost use Rattle.messages_certificates.specs.ProposalCertificate.{Notarization};
 ghost use Rattle.simplex_messages.specs.declared.activity.Activity.TheVariants as activity;
 ghost use Rattle.simplex_resolver.specs.Keeps as repairing;
 ghost use Rattle.simplex_resolver.specs.RepairHistory as items;
-ghost use Rattle.simplex_books.specs.Books.{HasFailed, HasNotFailed, LeaveBook};
+ghost use Rattle.journal_books.specs.Books.{HasFailed, HasNotFailed, LeaveBook};
 ghost use Rattle.simplex_member.specs.Allowed.{Allowed};
 ghost use Rattle.simplex_member.specs.Asked.{IsAwaited};
 ghost use Rattle.simplex_member.specs.declared.fault.NodeFault.{NodeFault};

@@ -7,10 +7,10 @@ use Rattle.simplex_record.specs.Lawful.{IsLawful, IsRefusedAt}
 use Rattle.journal_single.specs.declared.disk.Disk as disk
 use Rattle.simplex_journal.specs.declared.fault.PairFault.{PairFault}
 use Rattle.simplex_journal.specs.declared.fault.PairFault.TheVariants as journal_fault
-use Rattle.simplex_books.specs.declared.books.Books.{Books}
-use Rattle.simplex_books.specs.declared.disks.Disks.{Disks}
-use Rattle.simplex_books.specs.Books as words
-use Rattle.simplex_books.specs.Books.{AreRead, IsBook, MayBeRead, has_failed}
+use Rattle.journal_books.specs.declared.books.Books.{Books}
+use Rattle.journal_books.specs.declared.disks.Disks.{Disks}
+use Rattle.journal_books.specs.Books as words
+use Rattle.journal_books.specs.Books.{AreRead, IsBook, MayBeRead, has_failed}
 use Rattle.node_record.specs.declared.ledger.Ledger.{Ledger}
 use Rattle.node_record.specs.Recorded.{HoldsRecord}
 

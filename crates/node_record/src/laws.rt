@@ -8,7 +8,7 @@ ghost use Rattle.messages_certificates.specs.declared.nullify.Nullify.{Nullify};
 ghost use Rattle.simplex_record.specs.declared.owner.Owner.{Owner};
 ghost use Rattle.simplex_record.specs.Record.{current_view, entries};
 ghost use Rattle.simplex_record.specs.Lawful.{IsLawful};
-ghost use Rattle.simplex_books.specs.Books.{LeaveBook};
+ghost use Rattle.journal_books.specs.Books.{LeaveBook};
 ghost use Rattle.simplex_member.specs.Point.{History, Point};
 ghost use Rattle.node_record.specs.declared.ledger.Ledger.{Ledger};
 ghost use Rattle.node_record.specs.declared.tables.Tables.{Tables};
@@ -17,7 +17,7 @@ ghost use Rattle.node_record.specs.Recorded.{IsLastNullifyOf};
 ghost use Rattle.node_record.specs.Tables.{KeepsTables, is_quiet};
 
 use messages_certificates::Artifact;
-use simplex_books::a_book_at_rest_leaves_its_record;
+use journal_books::a_book_at_rest_leaves_its_record;
 use simplex_journal::Disk;
 use types_core::{Digest, Scheme};
 

@@ -8,8 +8,8 @@ ghost use Rattle.simplex_record.specs.declared.owner.Owner.{Owner};
 ghost use Rattle.simplex_record.specs.Record.{entry, entries};
 ghost use Rattle.simplex_record.specs.Rules.{MayFollow};
 ghost use Rattle.simplex_journal.specs.declared.fault.PairFault.TheVariants as journal_fault;
-ghost use Rattle.simplex_books.specs.Books as words;
-ghost use Rattle.simplex_books.specs.Books.{AreLeftAsTheyWere, HasFailed, HasNotFailed, IsBook, IsForeignOn, IsWithOrWithout, Leave, LeaveBook, LeaveSince, MayBeRead, has_failed};
+ghost use Rattle.journal_books.specs.Books as words;
+ghost use Rattle.journal_books.specs.Books.{AreLeftAsTheyWere, HasFailed, HasNotFailed, IsBook, IsForeignOn, IsWithOrWithout, Leave, LeaveBook, LeaveSince, MayBeRead, has_failed};
 ghost use Rattle.simplex_member.specs.declared.fault.NodeFault.{NodeFault};
 ghost use Rattle.simplex_member.specs.declared.fault.NodeFault.TheVariants as step_fault;
 ghost use Rattle.simplex_member.specs.declared.fault.OpenFault.TheVariants as open_fault;
@@ -18,7 +18,7 @@ ghost use Rattle.node_record.specs.Recorded.{HoldsRecord};
 
 use crate::recorded::Recorded;
 use messages_certificates::Artifact;
-use simplex_books::{Books, Disks, FoundBooks, a_book_at_rest_leaves_its_record};
+use journal_books::{Books, Disks, FoundBooks, a_book_at_rest_leaves_its_record};
 use simplex_journal::{Disk, PairFault};
 use simplex_member::{NodeFault, OpenFault};
 use simplex_record::Owner;
@@ -100,6 +100,7 @@ impl<S: Scheme<D>, D: Digest, K: Disk> Ledger<S, D, K> {
     /// [`NodeFault::Memory`], also for an artifact that is too long for a disk, and [`NodeFault::Device`].
     /// Afterwards nothing is said of the ledger, but that a crash leaves the record with the artifact or
     /// without it.
+    #[tactic(auto, using(journal_books::specs::BooksLaws::same_not_failed))]
     pub fn record(&mut self, artifact: Artifact<S, D>) -> Result<(), NodeFault>
         requires within { artifact_within (S.Certificate.within 65535) artifact }
         ensures keeps { OnOk result ((owner : Owner) (xs : List (Artifact S D S.PublicKey S.Signature S.Certificate))

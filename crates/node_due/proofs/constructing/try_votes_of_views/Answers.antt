@@ -2,8 +2,8 @@ use Rattle.std.proofs.Common.{arith, ◌<◌, ◌∙◌, ℕ, refl, sym, ap, sub
 use Rattle.std.specs.Prelude.{◌^◌}
 use Rattle.std.proofs.lemmas.Result.{on_ok_weaker}
 use Rattle.messages_certificates.specs.declared.artifact.Artifact.{Artifact}
-use Rattle.simplex_books.specs.declared.books.Books.{Books}
-use Rattle.simplex_books.specs.Books.{LeaveBook}
+use Rattle.journal_books.specs.declared.books.Books.{Books}
+use Rattle.journal_books.specs.Books.{LeaveBook}
 use Rattle.node_outbox.specs.Handing.{nothing_more}
 use Rattle.node_requests.specs.Asking.{is_none}
 use Rattle.simplex_member.specs.declared.fault.NodeFault.TheVariants as step_fault

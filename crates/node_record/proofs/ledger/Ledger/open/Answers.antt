@@ -1,6 +1,7 @@
 use Rattle.std.proofs.Common.{◌≡◌, ⊎_elim, map, subst, sym}
-use Rattle.simplex_books.specs.declared.disks.Disks.{Disks}
-use Rattle.simplex_books.specs.Books.{Leave, MayBeRead}
+use Rattle.journal_books.specs.declared.disks.Disks.{Disks}
+use Rattle.journal_books.specs.Books.{AreLeftAsTheyWere, HasNotFailed, Leave, MayBeRead}
+use Rattle.journal_books.specs.BooksLaws.{failed_then, not_failed_then}
 use Rattle.node_record.proofs.ledger.Ledger.open.Goals as goal
 
 pub returns-in-Ok-keep-clause-opened : goal.returns-in-Ok-keep-clause-opened
@@ -40,3 +41,18 @@ returns-in-Err-checked-clause-contradiction g c = λ position is. (
   record { readable = c.in-Ok.ensures.readable; reads = c.in-Ok.ensures.reading; left = c.in-Ok.ensures.left },
   c.in-Err-checked.ensures.refused position is,
 )
+
+pub returns-in-Err-checked-clause-untouched : goal.returns-in-Err-checked-clause-untouched
+returns-in-Err-checked-clause-untouched g c = λ other keeps.
+    subst (λ (on : Disks g.row.K.Denot). AreLeftAsTheyWere g.K.Disk c.args.disks on) (sym c.close.ensures) (c.in-Ok.ensures.untouched keeps)
+
+-- how often a disk has failed
+pub returns-in-Err-checked-clause-no_device : goal.returns-in-Err-checked-clause-no_device
+returns-in-Err-checked-clause-no_device g c = λ other.
+    subst (λ (on : Disks g.row.K.Denot). HasNotFailed g.K.Disk c.args.disks on) (sym c.close.ensures) c.in-Ok.ensures.no_fault
+
+pub returns-in-Ok-keep-clause-no_fault : goal.returns-in-Ok-keep-clause-no_fault
+returns-in-Ok-keep-clause-no_fault g c = not_failed_then g.K.Disk _ _ _ c.in-Ok.ensures.no_fault c.in-Ok-keep.ensures.no_fault
+
+pub returns-in-Err-keep-clause-device : goal.returns-in-Err-keep-clause-device
+returns-in-Err-keep-clause-device g c = λ is. failed_then g.K.Disk _ _ _ c.in-Ok.ensures.no_fault c.in-Err-keep.ensures.device

@@ -1,5 +1,5 @@
 use Rattle.std.proofs.Common.{inl}
-use Rattle.simplex_books.specs.BooksLaws.{book_weaker}
+use Rattle.journal_books.specs.BooksLaws.{book_weaker}
 use Rattle.node_record.proofs.ledger.Ledger.record.Goals as goal
 
 -- no room for one more: nothing was asked of a disk

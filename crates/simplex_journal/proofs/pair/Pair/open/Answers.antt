@@ -1,4 +1,5 @@
-use Rattle.std.proofs.Common.{map}
+use Rattle.std.proofs.Common.{◌∷◌, ◌∙◌, List, ℕ, ap, map, sym}
+use Rattle.journal_single.specs.Disk.{Synced}
 use Rattle.simplex_journal.proofs.Reopening.{reopened_since}
 use Rattle.simplex_journal.proofs.pair.Pair.open.Goals as goal
 
@@ -15,3 +16,10 @@ returns-in-Err-keep-clause-any_moment_of_a_fault g c = λ k.
     reopened_since _ _ (map g.M.Write.spelling c.in-Ok.messages.items) _ _ _ _
     (g.K.Disk.seen c.args.first, g.K.Disk.seen c.args.second, g.met.K.Disk.seen_is_left c.args.first k, g.met.K.Disk.seen_is_left c.args.second k, looked.reading k)
     (c.in-Err-keep.ensures.any_moment_of_a_fault c.in-Ok.messages.items _ _ k (looked.found k) (looked.before k))
+
+pub returns-in-Err-clause-untouched : goal.returns-in-Err-clause-untouched
+returns-in-Err-clause-untouched g c = λ other k.
+    let was = c.in-Err.ensures.untouched_by_others other k in (
+      was.one.asked ∙ ap (λ (l : List ℕ). Synced l ∷ g.K.Disk.calls c.args.first) (sym was.one.same),
+      was.two.asked ∙ ap (λ (l : List ℕ). Synced l ∷ g.K.Disk.calls c.args.second) (sym was.two.same),
+    )

@@ -2,7 +2,7 @@
 
 ghost use Rattle.std.specs.Prelude.{◌≡◌, ◌≢◌, ◌⊎◌, ◌+◌, ◌++◌, [], ◌∷◌, List, ℕ, map, All, OnOk, IfErr, IsErrOf, true, false};
 ghost use Rattle.simplex_journal.specs.declared.fault.PairFault.TheVariants.{Device, Exhausted, Failed, Memory, TooLong};
-ghost use Rattle.simplex_books.specs.Books.{Leave, LeaveBook, HasFailed, HasNotFailed, IsBook, IsWithOrWithout, are_two, disks_of, has_failed};
+ghost use Rattle.journal_books.specs.Books.{Leave, LeaveBook, HasFailed, HasNotFailed, IsBook, IsWithOrWithout, are_two, disks_of, has_failed};
 
 use crate::disks::Disks;
 use crate::faults::told;

@@ -1,6 +1,6 @@
-use Rattle.simplex_books.specs.BooksLaws.{read_once}
-use Rattle.simplex_books.proofs.Looking.{any_read, untouched_leaves}
-use Rattle.simplex_books.proofs.laws.disks_read_as_one_record.Goals as goal
+use Rattle.journal_books.specs.BooksLaws.{read_once}
+use Rattle.journal_books.proofs.Looking.{any_read, untouched_leaves}
+use Rattle.journal_books.proofs.laws.disks_read_as_one_record.Goals as goal
 
 pub returns-clause-some : goal.returns-clause-some
 returns-clause-some g c = λ on keeps. any_read g.K.Disk (λ d. g.met.K.Disk.seen_is_left d keeps) on

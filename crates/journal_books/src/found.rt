@@ -3,7 +3,7 @@
 ghost use Rattle.std.specs.Prelude.{◌≡◌, ◌≢◌, ◌⊎◌, ℕ, List, map, All, IfOk, IfErr, false};
 ghost use Rattle.types_codec.specs.Codec.{Readable};
 ghost use Rattle.simplex_journal.specs.declared.fault.PairFault.TheVariants.{Device, Foreign, Memory};
-ghost use Rattle.simplex_books.specs.Books.{AreLeftAsTheyWere, AreRead, HasFailed, HasFoundOn, HasNotFailed, IsBook, IsForeignOn, IsLookAt, Leave, LeaveSince, MayBeRead, are_two, disks_of, found_on, has_failed};
+ghost use Rattle.journal_books.specs.Books.{AreLeftAsTheyWere, AreRead, HasFailed, HasFoundOn, HasNotFailed, IsBook, IsForeignOn, IsLookAt, Leave, LeaveSince, MayBeRead, are_two, disks_of, found_on, has_failed};
 
 use crate::books::Books;
 use crate::disks::Disks;

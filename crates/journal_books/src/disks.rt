@@ -1,8 +1,8 @@
 //! The disks that a record stands on.
 
 ghost use Rattle.std.specs.Prelude.{◌≡◌, true, false};
-ghost use Rattle.simplex_books.specs.declared.disks.Disks.TheVariants.{One, Two};
-ghost use Rattle.simplex_books.specs.Books.{are_two};
+ghost use Rattle.journal_books.specs.declared.disks.Disks.TheVariants.{One, Two};
+ghost use Rattle.journal_books.specs.Books.{are_two};
 
 use simplex_journal::Disk;
 

@@ -7,9 +7,9 @@ use Rattle.journal_single.specs.Moments.{started}
 use Rattle.journal_single.specs.Record.{Reads, IsAtRest}
 use Rattle.simplex_journal.specs.Leaving.{LeavesReading}
 use Rattle.simplex_journal.specs.Standing.{IsPairRecord, PairStanding}
-use Rattle.simplex_books.specs.declared.books.Books.{Books}
-use Rattle.simplex_books.specs.declared.books.Books.TheVariants as books
-use Rattle.simplex_books.specs.Books.{IsBook, LeaveBook}
+use Rattle.journal_books.specs.declared.books.Books.{Books}
+use Rattle.journal_books.specs.declared.books.Books.TheVariants as books
+use Rattle.journal_books.specs.Books.{IsBook, LeaveBook}
 
 at_rest_reads : {seen : List ℕ} {calls : List Call} {gate : ℕ} {bodies : List (List ℕ)} → IsAtRest [] seen calls gate bodies → (image : List ℕ) → MayLeave calls image → Reads image bodies
 at_rest_reads {calls = calls} {bodies = bodies} r image left =

@@ -10,11 +10,11 @@ use Rattle.simplex_journal.specs.Leaving.{LeavesReading, LeavesSince}
 use Rattle.simplex_journal.specs.LeavingLaws as pairs
 use Rattle.simplex_journal.specs.Reading.{ReadsPair}
 use Rattle.simplex_journal.specs.ReadingLaws.{one_pair}
-use Rattle.simplex_books.specs.declared.books.Books.{Books}
-use Rattle.simplex_books.specs.declared.books.Books.TheVariants as books
-use Rattle.simplex_books.specs.declared.disks.Disks.{Disks}
-use Rattle.simplex_books.specs.declared.disks.Disks.TheVariants.{One, Two}
-use Rattle.simplex_books.specs.Books.{AreRead, HasFailed, HasNotFailed, IsBook, Leave, LeaveBook, LeaveSince, MayBeRead, disks_of}
+use Rattle.journal_books.specs.declared.books.Books.{Books}
+use Rattle.journal_books.specs.declared.books.Books.TheVariants as books
+use Rattle.journal_books.specs.declared.disks.Disks.{Disks}
+use Rattle.journal_books.specs.declared.disks.Disks.TheVariants.{One, Two}
+use Rattle.journal_books.specs.Books.{AreRead, HasFailed, HasNotFailed, IsBook, Leave, LeaveBook, LeaveSince, MayBeRead, disks_of}
 
 -- an image reads as bodies that have P, and two do
 abbrev ReadsOne : (List (List ℕ) → Type 0) → List ℕ → Type 0

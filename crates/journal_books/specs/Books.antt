@@ -11,12 +11,12 @@ use Rattle.simplex_journal.specs.PairLooking as pairs
 use Rattle.simplex_journal.specs.PairLooking.{HasFoundPair, IsAskedBefore}
 use Rattle.simplex_journal.specs.Reading.{ReadsPair, BothLeaveOnly, IsForeignPair}
 use Rattle.simplex_journal.specs.Standing.{IsPairRecord}
-use Rattle.simplex_books.specs.declared.books.Books.{Books}
-use Rattle.simplex_books.specs.declared.books.Books.TheVariants as books
-use Rattle.simplex_books.specs.declared.disks.Disks.{Disks}
-use Rattle.simplex_books.specs.declared.disks.Disks.TheVariants.{One, Two}
-use Rattle.simplex_books.specs.declared.found.FoundBooks.{FoundBooks}
-use Rattle.simplex_books.specs.declared.found.FoundBooks.TheVariants as found
+use Rattle.journal_books.specs.declared.books.Books.{Books}
+use Rattle.journal_books.specs.declared.books.Books.TheVariants as books
+use Rattle.journal_books.specs.declared.disks.Disks.{Disks}
+use Rattle.journal_books.specs.declared.disks.Disks.TheVariants.{One, Two}
+use Rattle.journal_books.specs.declared.found.FoundBooks.{FoundBooks}
+use Rattle.journal_books.specs.declared.found.FoundBooks.TheVariants as found
 
 -- whether these are two disks
 abbrev pub are_two : {K : Type 0} → Disks K → Bool

@@ -1,9 +1,9 @@
 //! What is read of disks.
 
 ghost use Rattle.std.specs.Prelude.{◌≡◌, ℕ, List, map};
-ghost use Rattle.simplex_books.specs.declared.books.Books.{Books};
-ghost use Rattle.simplex_books.specs.declared.disks.Disks.{Disks};
-ghost use Rattle.simplex_books.specs.Books.{AreRead, IsBook, Leave, LeaveBook, MayBeRead};
+ghost use Rattle.journal_books.specs.declared.books.Books.{Books};
+ghost use Rattle.journal_books.specs.declared.disks.Disks.{Disks};
+ghost use Rattle.journal_books.specs.Books.{AreRead, IsBook, Leave, LeaveBook, MayBeRead};
 
 use simplex_journal::{Disk, a_pair_at_rest_leaves_its_record};
 use types_core::{EncodeSize, Read};

@@ -15,11 +15,11 @@ use Rattle.simplex_journal.specs.Reading.{BothLeaveOnly, IsPairReopened, ReadsPa
 use Rattle.simplex_journal.specs.ReadingLaws.{pair_any}
 use Rattle.simplex_journal.specs.Standing.{PairStanding}
 use Rattle.journal_single.specs.Journal.{Standing}
-use Rattle.simplex_books.specs.declared.books.Books.TheVariants as books
-use Rattle.simplex_books.specs.declared.disks.Disks.{Disks}
-use Rattle.simplex_books.specs.declared.disks.Disks.TheVariants.{One, Two}
-use Rattle.simplex_books.specs.declared.found.FoundBooks.TheVariants as found
-use Rattle.simplex_books.specs.Books.{AreRead, IsLookAt, Leave, LeaveSince, MayBeRead}
+use Rattle.journal_books.specs.declared.books.Books.TheVariants as books
+use Rattle.journal_books.specs.declared.disks.Disks.{Disks}
+use Rattle.journal_books.specs.declared.disks.Disks.TheVariants.{One, Two}
+use Rattle.journal_books.specs.declared.found.FoundBooks.TheVariants as found
+use Rattle.journal_books.specs.Books.{AreRead, IsLookAt, Leave, LeaveSince, MayBeRead}
 
 module _ {K : Type 0} (k : disk.Ghosts K) where
   -- something is read
