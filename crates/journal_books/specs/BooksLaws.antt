@@ -14,7 +14,7 @@ use Rattle.journal_books.specs.declared.books.Books.{Books}
 use Rattle.journal_books.specs.declared.books.Books.TheVariants as books
 use Rattle.journal_books.specs.declared.disks.Disks.{Disks}
 use Rattle.journal_books.specs.declared.disks.Disks.TheVariants.{One, Two}
-use Rattle.journal_books.specs.Books.{AreRead, HasFailed, HasNotFailed, IsBook, Leave, LeaveBook, LeaveSince, MayBeRead, disks_of}
+use Rattle.journal_books.specs.Books.{AreRead, HasFailed, HasNotFailed, IsBook, Leave, LeaveBook, LeaveSince, MayBeRead, are_two, disks_of}
 
 -- an image reads as bodies that have P, and two do
 abbrev ReadsOne : (List (List ℕ) → Type 0) → List ℕ → Type 0
@@ -47,6 +47,19 @@ module _ {K : Type 0} (k : disk.Ghosts K) where
   failed_then (Two old old-2) (One mid) new one other = absurd one
   failed_then (One old) (One mid) (Two new new-2) one other = absurd other
   failed_then (Two old old-2) (Two mid mid-2) (One new) one other = absurd other
+
+  -- they are as many as before
+  pub same_kind : (old new : Disks K) → HasNotFailed k old new → are_two new ≡ are_two old
+  same_kind (One old) (One new) told = refl
+  same_kind (Two old old-2) (Two new new-2) told = refl
+  same_kind (One old) (Two new new-2) told = absurd told
+  same_kind (Two old old-2) (One new) told = absurd told
+
+  pub same_kind_failed : (old new : Disks K) → HasFailed k old new → are_two new ≡ are_two old
+  same_kind_failed (One old) (One new) told = refl
+  same_kind_failed (Two old old-2) (Two new new-2) told = refl
+  same_kind_failed (One old) (Two new new-2) told = absurd told
+  same_kind_failed (Two old old-2) (One new) told = absurd told
 
   -- ---- what is read is one thing
 

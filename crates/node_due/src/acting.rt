@@ -28,6 +28,7 @@ use voter_laws::a_latch_changes_nothing_due;
 /// # Errors
 ///
 /// [`NodeFault::Memory`] and [`NodeFault::Device`].
+#[tactic(auto, using(journal_books::specs::BooksLaws::same_not_failed))]
 pub fn settle<S: Scheme<D> + Drop, L: Elector<S, D>, D: Digest, K: Disk>(
     core: &mut Core<S, L, D, K>,
     out: &mut Vec<Action<S, D>>,
@@ -52,6 +53,7 @@ pub fn settle<S: Scheme<D> + Drop, L: Elector<S, D>, D: Digest, K: Disk>(
 }
 
 /// Does the first thing that is due. Where it did nothing, nothing is.
+#[tactic(auto, using(journal_books::specs::BooksLaws::same_not_failed))]
 fn act<S: Scheme<D> + Drop, L: Elector<S, D>, D: Digest, K: Disk>(
     core: &mut Core<S, L, D, K>,
     out: &mut Vec<Action<S, D>>,
@@ -80,6 +82,7 @@ fn act<S: Scheme<D> + Drop, L: Elector<S, D>, D: Digest, K: Disk>(
 }
 
 /// Asks what is to be known of others' proposals: for verdicts, and for verifications or what these lack.
+#[tactic(auto, using(journal_books::specs::BooksLaws::same_not_failed))]
 fn ask_on_proposals<S: Scheme<D> + Drop, L: Elector<S, D>, D: Digest, K: Disk>(
     core: &mut Core<S, L, D, K>,
     out: &mut Vec<Action<S, D>>,
@@ -99,6 +102,7 @@ fn ask_on_proposals<S: Scheme<D> + Drop, L: Elector<S, D>, D: Digest, K: Disk>(
 }
 
 /// Does what is due of the votes of all views.
+#[tactic(auto, using(journal_books::specs::BooksLaws::same_not_failed))]
 fn go_by_votes<S: Scheme<D> + Drop, L: Elector<S, D>, D: Digest, K: Disk>(
     core: &mut Core<S, L, D, K>,
     out: &mut Vec<Action<S, D>>,
@@ -121,6 +125,7 @@ fn go_by_votes<S: Scheme<D> + Drop, L: Elector<S, D>, D: Digest, K: Disk>(
 }
 
 /// Gives builds back and asks for others, asks other members for views, and gives a silent leader up.
+#[tactic(auto, using(journal_books::specs::BooksLaws::same_not_failed))]
 fn ask_for_more<S: Scheme<D> + Drop, L: Elector<S, D>, D: Digest, K: Disk>(
     core: &mut Core<S, L, D, K>,
     out: &mut Vec<Action<S, D>>,
@@ -149,6 +154,7 @@ fn ask_for_more<S: Scheme<D> + Drop, L: Elector<S, D>, D: Digest, K: Disk>(
 }
 
 /// Casts one vote that is due.
+#[tactic(auto, using(journal_books::specs::BooksLaws::same_not_failed))]
 fn vote<S: Scheme<D> + Drop, L: Elector<S, D>, D: Digest, K: Disk>(
     core: &mut Core<S, L, D, K>,
     out: &mut Vec<Action<S, D>>,

@@ -52,6 +52,7 @@ use voter_laws::what_is_known_is_recorded;
 /// # Errors
 ///
 /// [`NodeFault::Memory`] and [`NodeFault::Device`]. Then the record is the one before, or has the vote.
+#[tactic(auto, using(journal_books::specs::BooksLaws::same_not_failed))]
 pub(crate) fn try_notarize<S: Scheme<D> + Drop, L: Elector<S, D>, D: Digest, K: Disk>(
     core: &mut Core<S, L, D, K>,
     out: &mut Vec<Action<S, D>>,
@@ -78,6 +79,7 @@ pub(crate) fn try_notarize<S: Scheme<D> + Drop, L: Elector<S, D>, D: Digest, K: 
 /// # Errors
 ///
 /// [`NodeFault::Memory`] and [`NodeFault::Device`]. Then the record is the one before, or has the vote.
+#[tactic(auto, using(journal_books::specs::BooksLaws::same_not_failed))]
 pub(crate) fn try_finalize<S: Scheme<D> + Drop, L: Elector<S, D>, D: Digest, K: Disk>(
     core: &mut Core<S, L, D, K>,
     out: &mut Vec<Action<S, D>>,
@@ -103,6 +105,7 @@ pub(crate) fn try_finalize<S: Scheme<D> + Drop, L: Elector<S, D>, D: Digest, K: 
 /// # Errors
 ///
 /// [`NodeFault::Memory`] and [`NodeFault::Device`]. Then the record is the one before, or has the vote.
+#[tactic(auto, using(journal_books::specs::BooksLaws::same_not_failed))]
 pub(crate) fn try_nullify<S: Scheme<D> + Drop, L: Elector<S, D>, D: Digest, K: Disk>(
     core: &mut Core<S, L, D, K>,
     out: &mut Vec<Action<S, D>>,
@@ -122,6 +125,7 @@ pub(crate) fn try_nullify<S: Scheme<D> + Drop, L: Elector<S, D>, D: Digest, K: D
 }
 
 /// Gives the current view up, where it may be: by a new vote, or by the recorded one once more.
+#[tactic(auto, using(journal_books::specs::BooksLaws::same_not_failed))]
 fn give_up<S: Scheme<D> + Drop, L: Elector<S, D>, D: Digest, K: Disk>(
     core: &mut Core<S, L, D, K>,
     out: &mut Vec<Action<S, D>>,
@@ -151,6 +155,7 @@ fn give_up<S: Scheme<D> + Drop, L: Elector<S, D>, D: Digest, K: Disk>(
 }
 
 /// Sends the recorded nullify of the current view once more, and the best certificate to enter the view by.
+#[tactic(auto, using(journal_books::specs::BooksLaws::same_not_failed))]
 fn repeat_nullify<S: Scheme<D> + Drop, L: Elector<S, D>, D: Digest, K: Disk>(
     core: &mut Core<S, L, D, K>,
     view: View,
@@ -196,6 +201,7 @@ fn repeat_nullify<S: Scheme<D> + Drop, L: Elector<S, D>, D: Digest, K: Disk>(
 }
 
 /// Casts an own vote that the voter made: it is recorded, the votes of its view learn of it, and it is sent and reported.
+#[tactic(auto, using(journal_books::specs::BooksLaws::same_not_failed))]
 fn cast<S: Scheme<D> + Drop, L: Elector<S, D>, D: Digest, K: Disk>(
     core: &mut Core<S, L, D, K>,
     vote: Vote<S, D>,

@@ -43,6 +43,7 @@ use types_terms::Elector;
 /// # Errors
 ///
 /// [`NodeFault::Memory`].
+#[tactic(auto, using(journal_books::specs::BooksLaws::same_not_failed))]
 pub(crate) fn try_leader<S: Scheme<D> + Drop, L: Elector<S, D>, D: Digest, K: Disk>(
     core: &mut Core<S, L, D, K>,
 ) -> Result<Acted, NodeFault>
@@ -60,6 +61,7 @@ pub(crate) fn try_leader<S: Scheme<D> + Drop, L: Elector<S, D>, D: Digest, K: Di
 /// # Errors
 ///
 /// [`NodeFault::Memory`] and [`NodeFault::Device`]. Then the record is the one before, or has the certificate that was made.
+#[tactic(auto, using(journal_books::specs::BooksLaws::same_not_failed))]
 pub(crate) fn try_votes_of_views<S: Scheme<D> + Drop, L: Elector<S, D>, D: Digest, K: Disk>(
     core: &mut Core<S, L, D, K>,
     out: &mut Vec<Action<S, D>>,
@@ -104,6 +106,7 @@ fn take_proposal<S: Scheme<D> + Drop, L: Elector<S, D>, D: Digest, K: Disk>(
 }
 
 /// Takes what a construction gave: who is invalid is blocked, a certificate is taken.
+#[tactic(auto, using(journal_books::specs::BooksLaws::same_not_failed))]
 fn take_batch<S: Scheme<D> + Drop, L: Elector<S, D>, D: Digest, K: Disk>(
     core: &mut Core<S, L, D, K>,
     batch: Batch<Certificate<S, D>>,
@@ -148,6 +151,7 @@ fn take_batch<S: Scheme<D> + Drop, L: Elector<S, D>, D: Digest, K: Disk>(
 
 /// Takes a certificate that was made, of which the votes of its view know already: the other layers learn of it, it is recorded,
 /// and what it brings is handed out.
+#[tactic(auto, using(journal_books::specs::BooksLaws::same_not_failed))]
 fn take_made<S: Scheme<D> + Drop, L: Elector<S, D>, D: Digest, K: Disk>(
     core: &mut Core<S, L, D, K>,
     certificate: Certificate<S, D>,
@@ -190,6 +194,7 @@ fn take_made<S: Scheme<D> + Drop, L: Elector<S, D>, D: Digest, K: Disk>(
 }
 
 /// All layers but the votes of its view learn of a certificate that was made, and it is recorded.
+#[tactic(auto, using(journal_books::specs::BooksLaws::same_not_failed))]
 fn learn_made<S: Scheme<D> + Drop, L: Elector<S, D>, D: Digest, K: Disk>(
     core: &mut Core<S, L, D, K>,
     certificate: &Certificate<S, D>,

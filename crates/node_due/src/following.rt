@@ -22,6 +22,7 @@ use types_terms::Elector;
 /// # Errors
 ///
 /// [`NodeFault::Memory`].
+#[tactic(auto, using(journal_books::specs::BooksLaws::same_not_failed))]
 pub(crate) fn try_to_follow<S: Scheme<D> + Drop, L: Elector<S, D>, D: Digest, K: Disk>(
     core: &mut Core<S, L, D, K>,
 ) -> Result<Acted, NodeFault>

@@ -28,6 +28,7 @@ use types_core::{Digest, Participant, Scheme};
 use types_terms::Elector;
 
 /// A packet is refused, for the reason that is answered, or taken, and what that brings is handed out.
+#[tactic(auto, using(journal_books::specs::BooksLaws::same_not_failed))]
 pub(crate) fn handle_packet<S: Scheme<D> + Drop, L: Elector<S, D>, D: Digest, K: Disk>(
     core: &mut Core<S, L, D, K>,
     sender: Participant,
@@ -48,6 +49,7 @@ pub(crate) fn handle_packet<S: Scheme<D> + Drop, L: Elector<S, D>, D: Digest, K:
 }
 
 /// Does what was decided of a packet of these bytes.
+#[tactic(auto, using(journal_books::specs::BooksLaws::same_not_failed))]
 fn handle_decided<S: Scheme<D> + Drop, L: Elector<S, D>, D: Digest, K: Disk>(
     core: &mut Core<S, L, D, K>,
     sender: Participant,

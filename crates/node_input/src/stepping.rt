@@ -19,6 +19,7 @@ use types_core::{Digest, Scheme, View};
 use types_terms::Elector;
 
 /// The reply to an event: it is refused or taken, and what it brings is handed out.
+#[tactic(auto, using(journal_books::specs::BooksLaws::same_not_failed))]
 pub fn answer<S: Scheme<D> + Drop, L: Elector<S, D>, D: Digest, K: Disk>(
     core: &mut Core<S, L, D, K>,
     event: Event<D>,
@@ -35,6 +36,7 @@ pub fn answer<S: Scheme<D> + Drop, L: Elector<S, D>, D: Digest, K: Disk>(
 }
 
 /// An event is refused, for the reason that is answered, or taken, and what that brings is handed out.
+#[tactic(auto, using(journal_books::specs::BooksLaws::same_not_failed))]
 fn handle<S: Scheme<D> + Drop, L: Elector<S, D>, D: Digest, K: Disk>(
     core: &mut Core<S, L, D, K>,
     event: Event<D>,
@@ -58,6 +60,7 @@ fn handle<S: Scheme<D> + Drop, L: Elector<S, D>, D: Digest, K: Disk>(
 }
 
 /// What was built under a number is refused, or taken.
+#[tactic(auto, using(journal_books::specs::BooksLaws::same_not_failed))]
 fn handle_built<S: Scheme<D> + Drop, L: Elector<S, D>, D: Digest, K: Disk>(
     core: &mut Core<S, L, D, K>,
     number: u64,
@@ -79,6 +82,7 @@ fn handle_built<S: Scheme<D> + Drop, L: Elector<S, D>, D: Digest, K: Disk>(
 }
 
 /// What was found of the proposal that is verified under a number is refused, or taken. Nothing is handed out for it.
+#[tactic(auto, using(journal_books::specs::BooksLaws::same_not_failed))]
 fn handle_checked<S: Scheme<D> + Drop, L: Elector<S, D>, D: Digest, K: Disk>(
     core: &mut Core<S, L, D, K>,
     number: u64,
@@ -99,6 +103,7 @@ fn handle_checked<S: Scheme<D> + Drop, L: Elector<S, D>, D: Digest, K: Disk>(
 }
 
 /// A verdict is refused, or taken.
+#[tactic(auto, using(journal_books::specs::BooksLaws::same_not_failed))]
 fn handle_verdict<S: Scheme<D> + Drop, L: Elector<S, D>, D: Digest, K: Disk>(
     core: &mut Core<S, L, D, K>,
     view: View,
@@ -120,6 +125,7 @@ fn handle_verdict<S: Scheme<D> + Drop, L: Elector<S, D>, D: Digest, K: Disk>(
 }
 
 /// A moment is refused, or taken. Nothing is handed out for it.
+#[tactic(auto, using(journal_books::specs::BooksLaws::same_not_failed))]
 fn handle_moment<S: Scheme<D> + Drop, L: Elector<S, D>, D: Digest, K: Disk>(
     core: &mut Core<S, L, D, K>,
     now: u64,

@@ -25,6 +25,7 @@ use types_terms::Elector;
 /// # Errors
 ///
 /// [`NodeFault::Memory`] and [`NodeFault::Device`]. Then the record is the one before, or has the certificate.
+#[tactic(auto, using(journal_books::specs::BooksLaws::same_not_failed))]
 pub(crate) fn take_certificate<S: Scheme<D> + Drop, L: Elector<S, D>, D: Digest, K: Disk>(
     core: &mut Core<S, L, D, K>,
     certificate: Certificate<S, D>,

@@ -42,6 +42,7 @@ use types_terms::Elector;
 /// # Errors
 ///
 /// [`NodeFault::Memory`] and [`NodeFault::Device`]. Then the record is the one before, or has the verdict.
+#[tactic(auto, using(journal_books::specs::BooksLaws::same_not_failed))]
 pub(crate) fn take_verdict<S: Scheme<D> + Drop, L: Elector<S, D>, D: Digest, K: Disk>(
     core: &mut Core<S, L, D, K>,
     view: View,

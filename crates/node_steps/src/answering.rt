@@ -18,6 +18,7 @@ use types_core::{Digest, Scheme};
 use types_terms::Elector;
 
 /// The reply to an event, of a node of which no step has failed, with all that is due behind it.
+#[tactic(auto, using(journal_books::specs::BooksLaws::same_not_failed))]
 pub(crate) fn answer_whole<S: Scheme<D> + Drop, L: Elector<S, D>, D: Digest, K: Disk>(
     core: &mut Core<S, L, D, K>,
     event: Event<D>,
@@ -33,6 +34,7 @@ pub(crate) fn answer_whole<S: Scheme<D> + Drop, L: Elector<S, D>, D: Digest, K: 
 }
 
 /// Does all that is due behind an event that was taken; behind one that was refused nothing is.
+#[tactic(auto, using(journal_books::specs::BooksLaws::same_not_failed))]
 fn go_on<S: Scheme<D> + Drop, L: Elector<S, D>, D: Digest, K: Disk>(
     core: &mut Core<S, L, D, K>,
     reply: Reply<S, D>,
