@@ -44,8 +44,7 @@ returns-in-Err-clause-faults g c = tells_err _ _ refl refl
     (tells_behind (asked_well g.K.Disk _ _ (Ok came.Did) c.acts.invariant.no_fault tt) c.in-Err.ensures.faults)
 
 pub returns-in-Ok-Nothing-clause-faults : goal.returns-in-Ok-Nothing-clause-faults
-returns-in-Ok-Nothing-clause-faults g c = tells_behind (asked_well g.K.Disk _ _ (Ok came.Nothing) c.acts.invariant.no_fault tt)
-    (asked_well g.K.Disk _ _ c.say_when.result c.in-Ok-Nothing.ensures.faults.no_fault c.say_when.ensures.memory)
+returns-in-Ok-Nothing-clause-faults g c = tells_behind (asked_well g.K.Disk _ _ (Ok came.Nothing) c.acts.invariant.no_fault tt) (tells_behind c.in-Ok-Nothing.ensures.faults c.say_when.ensures.faults)
 
 pub returns-clause-faults : goal.returns-clause-faults
-returns-clause-faults g c = asked_well g.K.Disk _ _ c.say_when.result c.acts.invariant.no_fault c.say_when.ensures.memory
+returns-clause-faults g c = tells_behind (asked_well g.K.Disk _ _ (Ok came.Nothing) c.acts.invariant.no_fault tt) c.say_when-2.ensures.faults
