@@ -1,2 +1,3 @@
 mod Resting
 mod Looking
+mod Weaker
