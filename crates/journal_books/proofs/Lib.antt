@@ -1,3 +1,4 @@
 mod Resting
 mod Looking
 mod Weaker
+mod Faults
