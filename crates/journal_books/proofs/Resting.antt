@@ -24,7 +24,7 @@ rest_leaves {calls = calls} {bodies = bodies} r = started calls (λ image. (read
 -- and so it does of a journal over one disk or two
 pub book_rests : {M K : Type 0} (k : disk.Ghosts K) (spelling : M → List ℕ) (messages : List M)
     → ((pair : PairStanding K) → IsPairRecord spelling k.seen k.calls pair messages
-      → LeavesReading pair.is_first pair.generation (k.calls pair.first) (k.calls pair.first) (k.calls pair.second) (k.calls pair.second) (λ read. read ≡ map spelling messages))
+    → LeavesReading pair.is_first pair.generation (k.calls pair.first) (k.calls pair.first) (k.calls pair.second) (k.calls pair.second) (λ read. read ≡ map spelling messages))
     → (b : Books M K) → IsBook k spelling b messages → LeaveBook k b b (λ read. read ≡ map spelling messages)
 book_rests k spelling messages pairs (books.One journal) is = rest_leaves is.1
 book_rests k spelling messages pairs (books.Two pair) is = (refl, refl, pairs pair is)

@@ -16,8 +16,8 @@ ghost use Rattle.node_record.specs.Ledger.{KeepsRecord, book_of};
 ghost use Rattle.node_record.specs.Recorded.{IsLastNullifyOf};
 ghost use Rattle.node_record.specs.Tables.{KeepsTables, is_quiet};
 
-use messages_certificates::Artifact;
 use journal_books::a_book_at_rest_leaves_its_record;
+use messages_certificates::Artifact;
 use simplex_journal::Disk;
 use types_core::{Digest, Scheme};
 

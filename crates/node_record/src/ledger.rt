@@ -17,8 +17,8 @@ ghost use Rattle.node_record.specs.Ledger.{IsContradiction, IsOpeningFault, Open
 ghost use Rattle.node_record.specs.Recorded.{HoldsRecord};
 
 use crate::recorded::Recorded;
-use messages_certificates::Artifact;
 use journal_books::{Books, Disks, FoundBooks, a_book_at_rest_leaves_its_record};
+use messages_certificates::Artifact;
 use simplex_journal::{Disk, PairFault};
 use simplex_member::{NodeFault, OpenFault};
 use simplex_record::Owner;

@@ -172,7 +172,14 @@ impl<S: Scheme<D> + Drop, L: Elector<S, D>, D: Digest, K: Disk> Node<S, L, D, K>
             ⟦<S as Speaks<D>>⟧.readable (Two first second) now)) }
         ensures over_two { IfOk result (λ r. are_two (disks_of r.0) ≡ true) }
     {
-        match Self::open_on(alloc, config, scheme, elector, Disks::Two(first, second), now) {
+        match Self::open_on(
+            alloc,
+            config,
+            scheme,
+            elector,
+            Disks::Two(first, second),
+            now,
+        ) {
             Ok(opened) => Ok(opened),
             Err((fault, disks)) => {
                 let (first, second) = disks.two();

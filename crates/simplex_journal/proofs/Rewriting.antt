@@ -73,10 +73,16 @@ rests_on false g gate seen1 seen2 calls1 calls2 old new r = started calls1 (λ o
 
 pub rests_one : (is_first : Bool) (g gate : ℕ) (seen1 seen2 : List ℕ) (calls1 calls2 : List Call) (bodies : List (List ℕ)) → IsPairAtRest is_first g seen1 calls1 seen2 calls2 gate bodies
     → LeavesReading is_first g calls1 calls1 calls2 calls2 (λ read. read ≡ bodies)
-rests_one true g gate seen1 seen2 calls1 calls2 bodies r = (started calls1 (ReadsAsOne g (λ read. read ≡ bodies)) (λ one left.
-    (bodies, subst (λ (l : List ℕ). ReadsAs l g bodies) (sym (fixed_only r.rest.closed.fixed one left)) (rest_reads r.rest), refl)), refl)
-rests_one false g gate seen1 seen2 calls1 calls2 bodies r = (started calls2 (ReadsAsOne g (λ read. read ≡ bodies)) (λ two left.
-    (bodies, subst (λ (l : List ℕ). ReadsAs l g bodies) (sym (fixed_only r.rest.closed.fixed two left)) (rest_reads r.rest), refl)), refl)
+rests_one true g gate seen1 seen2 calls1 calls2 bodies r = (
+  started calls1 (ReadsAsOne g (λ read. read ≡ bodies)) (λ one left.
+      (bodies, subst (λ (l : List ℕ). ReadsAs l g bodies) (sym (fixed_only r.rest.closed.fixed one left)) (rest_reads r.rest), refl)),
+  refl,
+)
+rests_one false g gate seen1 seen2 calls1 calls2 bodies r = (
+  started calls2 (ReadsAsOne g (λ read. read ≡ bodies)) (λ two left.
+      (bodies, subst (λ (l : List ℕ). ReadsAs l g bodies) (sym (fixed_only r.rest.closed.fixed two left)) (rest_reads r.rest), refl)),
+  refl,
+)
 
 pub rests_either : (is_first : Bool) (g gate : ℕ) (seen1 seen2 : List ℕ) (calls1 calls2 : List Call) (bodies : List (List ℕ)) (body : List ℕ) → IsPairAtRest is_first g seen1 calls1 seen2 calls2 gate bodies
     → LeavesReading is_first g calls1 calls1 calls2 calls2 (λ read. (read ≡ bodies) ⊎ (read ≡ bodies ++ body ∷ []))

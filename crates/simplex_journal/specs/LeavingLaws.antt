@@ -72,14 +72,22 @@ module _ (g : ℕ) (P : List (List ℕ) → Type 0) where
     any_read one two left left-2 = let any = pair_any one two in (any.0, any.1, may any.0 (one, two, left, left-2, any.1))
 
     first_read : LeavesOpened g old new old-2 new-2 P → (one two : List ℕ) → MayLeave old-2 two → ReadsAsOne g P one → ReadsBoth P one two
-    first_read o one two left-2 reads = let any = pair_any one two in (any.0, any.1, ⊎_elim
-        (λ beside. subst P (one_reading reads.0 any.0 reads.1 beside.reads).1 reads.2)
-        (λ passing. may any.0 (o.seen, two, o.here, left-2, inr (passing_same false one o.seen two g reads.0 o.bodies any.0 reads.1 o.reads passing))) any.1)
+    first_read o one two left-2 reads = let any = pair_any one two in (
+      any.0,
+      any.1,
+      ⊎_elim
+          (λ beside. subst P (one_reading reads.0 any.0 reads.1 beside.reads).1 reads.2)
+          (λ passing. may any.0 (o.seen, two, o.here, left-2, inr (passing_same false one o.seen two g reads.0 o.bodies any.0 reads.1 o.reads passing))) any.1,
+    )
 
     second_read : LeavesOpened g old-2 new-2 old new P → (one two : List ℕ) → MayLeave old one → ReadsAsOne g P two → ReadsBoth P one two
-    second_read o one two left reads = let any = pair_any one two in (any.0, any.1, ⊎_elim
-        (λ passing. may any.0 (one, o.seen, left, o.here, inl (passing_same true two o.seen one g reads.0 o.bodies any.0 reads.1 o.reads passing)))
-        (λ beside. subst P (one_reading reads.0 any.0 reads.1 beside.reads).1 reads.2) any.1)
+    second_read o one two left reads = let any = pair_any one two in (
+      any.0,
+      any.1,
+      ⊎_elim
+          (λ passing. may any.0 (one, o.seen, left, o.here, inl (passing_same true two o.seen one g reads.0 o.bodies any.0 reads.1 o.reads passing)))
+          (λ beside. subst P (one_reading reads.0 any.0 reads.1 beside.reads).1 reads.2) any.1,
+    )
 
     pub since_both : (is_first : Bool) → LeavesSince is_first g old new old-2 new-2 P → BothLeaveOnly old new old-2 new-2 (ReadsBoth P)
     since_both true o = weaker (λ one. LeavesOnly old-2 new-2 (ReadsBoth P one)) o.leaves (λ one either. weaker (ReadsBoth P one) o.others (λ two left-2.
