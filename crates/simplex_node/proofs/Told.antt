@@ -14,9 +14,11 @@ use Rattle.journal_single.specs.Disk.{LeavesOnly, MayLeave, counted}
 use Rattle.journal_single.specs.Moments.{and_then, at_last, started, weaker}
 use Rattle.journal_single.specs.Record.{IsForeign, Reads}
 use Rattle.journal_single.specs.Total.{reads_any}
+use Rattle.journal_books.specs.declared.books.Books.{Books}
 use Rattle.journal_books.specs.declared.disks.Disks.{Disks}
+use Rattle.journal_books.specs.Books as words
 use Rattle.journal_books.specs.declared.disks.Disks.TheVariants.{One, Two}
-use Rattle.journal_books.specs.Books.{HasFailed, HasNotFailed, Leave, MayBeRead, are_two}
+use Rattle.journal_books.specs.Books.{HasFailed, HasNotFailed, IsBook, Leave, MayBeRead, are_two}
 use Rattle.journal_books.specs.BooksLaws.{book_leaves, left_last, same_kind, same_kind_failed}
 use Rattle.simplex_member.specs.declared.action.Action.{Action}
 use Rattle.simplex_member.specs.declared.action.Reply.{Reply}
@@ -43,7 +45,7 @@ use Rattle.simplex_node.specs.declared.living.Answered.{Answered}
 use Rattle.simplex_node.specs.declared.living.Answered.TheVariants.{NotOpened, Opened}
 use Rattle.simplex_node.specs.declared.living.Opening.{Opening}
 use Rattle.simplex_node.specs.Living.{AreOfOneMember, FailsFor, Gives, IsLeftByLives, IsLeftByTurns, MayLeaveOnly, OnImage, OverLives, Tells, Try, failures_behind, setup_by, spares_disk, tells_none, tried}
-use Rattle.simplex_node.specs.Running.{IsPassed, RunFails, RunsTo}
+use Rattle.simplex_node.specs.Running.{IsPassed, LeavesAtMost, RunFails, RunsTo}
 use Rattle.simplex_node.proofs.Lived.{fails, leaves-on, left-none, left-open, left-told, left-turned, left-untold, same-index, tried-more, tried-none, turns-cut, turns-passed, turns-whole}
 
 module _ {S L D P G C K : Type 0} (g : Ghosts S D P G C) (e : elector.Ghosts L S D P G C) (k : disk.Ghosts K) (formats : ℕ → Formats S D P G C) (Readable : Artifact S D P G C → Type 0)
@@ -239,6 +241,23 @@ module _ {S L D P G C K : Type 0} (g : Ghosts S D P G C) (e : elector.Ghosts L S
 pub one_of : {K : Type 0} (on : Disks K) → are_two on ≡ false → (d : K) × (on ≡ One d)
 one_of (One d) is = (d, refl)
 one_of (Two first second) is = absurd (cc is)
+
+-- what a journal leaves of the one disk that it stands on
+pub on-disk : {M K : Type 0} (k : disk.Ghosts K) (P : List (List ℕ) → Type 0) (spelling : M → List ℕ) (messages : List M) (old new : Books M K) (d now : K) → words.disks_of old ≡ One d → words.disks_of new ≡ One now
+    → IsBook k spelling old messages → LeavesAtMost k old new P → (k.calls now ≡ k.calls d) ⊎ LeavesOnly (k.calls d) (k.calls now) (OnImage P)
+on-disk k P spelling messages old new d now over over-now is (inl same) =
+    let both : One now ≡ One d = sym over-now ∙ ap (λ (b : Books _ _). words.disks_of b) same ∙ over in
+    let here : now ≡ d = cc both in
+    inl (ap k.calls here)
+on-disk {K = K} k P spelling messages old new d now over over-now is (inr leaves) =
+    inr (subst (λ (x : Disks K). Leave k (One d) x P) over-now (subst (λ (x : Disks K). Leave k x (words.disks_of new) P) over (book_leaves k P spelling messages old new is leaves)))
+
+-- and how often that has failed
+pub failed-on : {K : Type 0} (k : disk.Ghosts K) (old new : Disks K) (d now : K) → old ≡ One d → new ≡ One now → HasFailed k old new → k.failed now ≡ counted false (k.failed d)
+failed-on {K} k old new d now over over-now told = subst (λ (x : Disks K). HasFailed k (One d) x) over-now (subst (λ (x : Disks K). HasFailed k x new) over told)
+
+pub not-failed-on : {K : Type 0} (k : disk.Ghosts K) (old new : Disks K) (d now : K) → old ≡ One d → new ≡ One now → HasNotFailed k old new → k.failed now ≡ k.failed d
+not-failed-on {K} k old new d now over over-now told = subst (λ (x : Disks K). HasNotFailed k (One d) x) over-now (subst (λ (x : Disks K). HasNotFailed k x new) over told)
 
 -- steps leave as many disks as there were
 pub kind-after : {K : Type 0} (k : disk.Ghosts K) (fault : Option NodeFault) (old new : Disks K) → (fault ≡ Some node_fault.Device → HasFailed k old new) → ((fault ≡ Some node_fault.Device → ⊥) → HasNotFailed k old new) → are_two new ≡ are_two old
