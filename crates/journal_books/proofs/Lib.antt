@@ -1,4 +1,4 @@
 mod Resting
 mod Looking
 mod Weaker
-mod Faults
+mod Refusals

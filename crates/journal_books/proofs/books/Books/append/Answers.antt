@@ -1,7 +1,7 @@
 use Rattle.std.proofs.Common.{⊎_elim, inl, inr, Err, ap}
 use Rattle.journal_single.specs.Journal.{Standing}
 use Rattle.simplex_journal.specs.Standing.{PairStanding}
-use Rattle.journal_books.proofs.Faults.{but_device}
+use Rattle.journal_books.proofs.Refusals.{but_device}
 use Rattle.journal_books.proofs.Weaker.{one-read}
 use Rattle.journal_books.proofs.books.Books.append.Goals as goal
 
