@@ -52,30 +52,30 @@ module _ {K : Type 0} (k : disk.Ghosts K) where
   one_look {before} {now} here was = (subst (MayLeave (k.calls before)) (sym was.same) here, was.asked ∙ ap (λ (l : List ℕ). Synced l ∷ k.calls before) (sym was.same))
 
   module _ {M : Type 0} (spelling : M → List ℕ) (messages : List M) where
-    one_kept : (f : Looked K) (before now : K) → HasFound spelling k.seen k.calls f messages → IsLookAt k {M} (One before) (found.One f) → LeavesOnly (k.calls f.disk) (k.calls now) (λ image. Reads image (map spelling messages))
+    one_kept : (f : Looked K) (before now : K) → HasFound spelling k.seen k.calls f messages → IsLookAt k {M = M} (One before) (found.One f) → LeavesOnly (k.calls f.disk) (k.calls now) (λ image. Reads image (map spelling messages))
         → Leave k (One before) (One now) (MayBeRead k (One before))
     one_kept f before now has look leaves = one_reopened before now (kept_leaves look.0 look.1 (reads_found has.found) leaves)
 
-    pub one_since : (f : Looked K) (before : Disks K) (now : Standing K) → HasFound spelling k.seen k.calls f messages → IsLookAt k {M} before (found.One f) → LeavesOnly (k.calls f.disk) (k.calls now.disk) (λ image. Reads image (map spelling messages))
-        → LeaveSince k {M} before (books.One now) (MayBeRead k before)
+    pub one_since : (f : Looked K) (before : Disks K) (now : Standing K) → HasFound spelling k.seen k.calls f messages → IsLookAt k {M = M} before (found.One f) → LeavesOnly (k.calls f.disk) (k.calls now.disk) (λ image. Reads image (map spelling messages))
+        → LeaveSince k {M = M} before (books.One now) (MayBeRead k before)
     one_since f (One before) now has look leaves = one_kept f before now.disk has look leaves
     one_since f (Two before before-2) now has look leaves = absurd look
 
-    pub one_until : (f : Looked K) (before : Disks K) (now : K) → HasFound spelling k.seen k.calls f messages → IsLookAt k {M} before (found.One f) → LeavesOnly (k.calls f.disk) (k.calls now) (λ image. Reads image (map spelling messages))
+    pub one_until : (f : Looked K) (before : Disks K) (now : K) → HasFound spelling k.seen k.calls f messages → IsLookAt k {M = M} before (found.One f) → LeavesOnly (k.calls f.disk) (k.calls now) (λ image. Reads image (map spelling messages))
         → Leave k before (One now) (MayBeRead k before)
     one_until f (One before) now has look leaves = one_kept f before now has look leaves
     one_until f (Two before before-2) now has look leaves = absurd look
 
-    pub two_since : (f : LookedPair K) (before : Disks K) (now : PairStanding K) → IsLookAt k {M} before (found.Two f) → MayBeRead k before (map spelling messages)
-        → ((a b : K) → IsLookAt k {M} (Two a b) (found.Two f) → LeavesSince now.is_first now.generation (k.calls a) (k.calls now.first) (k.calls b) (k.calls now.second) (λ read. read ≡ map spelling messages))
-        → LeaveSince k {M} before (books.Two now) (MayBeRead k before)
+    pub two_since : (f : LookedPair K) (before : Disks K) (now : PairStanding K) → IsLookAt k {M = M} before (found.Two f) → MayBeRead k before (map spelling messages)
+        → ((a b : K) → IsLookAt k {M = M} (Two a b) (found.Two f) → LeavesSince now.is_first now.generation (k.calls a) (k.calls now.first) (k.calls b) (k.calls now.second) (λ read. read ≡ map spelling messages))
+        → LeaveSince k {M = M} before (books.Two now) (MayBeRead k before)
     two_since f (Two a b) now look may leaves =
         pairs.since_weaker now.generation (λ read. read ≡ map spelling messages) (MayBeRead k (Two a b)) (λ read is. subst (MayBeRead k (Two a b)) (sym is) may) now.is_first (k.calls a) (k.calls now.first) (k.calls b) (k.calls now.second)
         (leaves a b look)
     two_since f (One before) now look may leaves = absurd look
 
-    pub two_until : (f : LookedPair K) (before : Disks K) (is_first : Bool) (g : ℕ) (now now-2 : K) → IsLookAt k {M} before (found.Two f) → MayBeRead k before (map spelling messages)
-        → ((a b : K) → IsLookAt k {M} (Two a b) (found.Two f) → LeavesSince is_first g (k.calls a) (k.calls now) (k.calls b) (k.calls now-2) (λ read. read ≡ map spelling messages))
+    pub two_until : (f : LookedPair K) (before : Disks K) (is_first : Bool) (g : ℕ) (now now-2 : K) → IsLookAt k {M = M} before (found.Two f) → MayBeRead k before (map spelling messages)
+        → ((a b : K) → IsLookAt k {M = M} (Two a b) (found.Two f) → LeavesSince is_first g (k.calls a) (k.calls now) (k.calls b) (k.calls now-2) (λ read. read ≡ map spelling messages))
         → Leave k before (Two now now-2) (MayBeRead k before)
     two_until f (Two a b) is_first g now now-2 look may leaves =
         pairs.since_both g (MayBeRead k (Two a b)) (k.calls a) (k.calls now) (k.calls b) (k.calls now-2) (λ read before. before) is_first
