@@ -201,7 +201,7 @@ TRIAL = re.compile(
 @functools.cache
 def trials():
     """What each of the trials of ten minutes told, by names, from its line of the log."""
-    return [it.groupdict() for it in TRIAL.finditer(read("host/trial-logs/2026-11-29-ten-minutes.log"))]
+    return [it.groupdict() for it in TRIAL.finditer(read("host/trial-logs/2026-11-30-ten-minutes.log"))]
 
 
 def over(what):
@@ -359,12 +359,12 @@ RULES = [
     Rule(TRIALS, r"\| calls \| ([\d,]+) \| ([\d,]+) to ([\d,]+) \|", lambda _: over("calls")),
     Rule(TRIALS, r"\| answered \| ([\d,]+) \| ([\d,]+) to ([\d,]+) \|", lambda _: over("answered")),
     Rule(TRIALS, r"\| of unknown end \| ([\d,]+) \| ([\d,]+) to ([\d,]+) \|", lambda _: over("unknown")),
-    Rule(TRIALS, r"\| the last view that a block came from \| \| (\d+) to (\d+) \|", lambda _: over("view")[1:]),
+    Rule(TRIALS, r"\| the last view that a block came from \| \| ([\d,]+) to ([\d,]+) \|", lambda _: over("view")[1:]),
     Rule(TRIALS, r"\| things done to processes: .*? \| ([\d,]+) \| \|", lambda _: done_to(processes=True)),
     Rule(TRIALS, r"\| things done to links \| ([\d,]+) \| \|", lambda _: done_to(processes=False)),
     Rule(TRIALS, r"\| with a liar, convicted alone in each \| (\d+) \| \|", lambda _: len([it for it in trials() if it["liar"] and it["liar"] == it["convicted"]])),
-    Rule(TRIALS, r"Seed (\d+) took ([\d,]+) s", lambda _: max((int(it["took"]), int(it["seed"])) for it in trials())[::-1]),
-    Rule(TRIALS, r"\(load (\d+) to (\d+)\)\. The lines are kept", lambda _: (math.floor(over("load")[1]), round(over("load")[2]))),
+    Rule(TRIALS, r"each took (\d+) to ([\d,]+) s", lambda _: over("took")[1:]),
+    Rule(TRIALS, r"\(load (\d+) to (\d+) at their ends, each took", lambda _: (math.floor(over("load")[1]), round(over("load")[2]))),
     Rule(TRIALS, r"Into each of the (\d+) histories each of the (\w+) faults",
          lambda _: (len(trials()), int(found("host/crates/trial/src/plant.rs", r"ALL: \[Fault; (\d+)\]")))),
 ]
