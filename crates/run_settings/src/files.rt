@@ -3,7 +3,6 @@
 ghost use Rattle.cli_settings.specs.Checking.{IsGood};
 
 use crate::light::{chain, one};
-use crate::texts::say_text;
 use cli_file::{path_behind, read_file, tell_settings};
 use cli_settings::Settings;
 use cli_toml::MemberFile;
@@ -74,7 +73,7 @@ impl Files {
         self.text = Vec::new(say.alloc);
         say.number(u64::from(status))?;
         say.gap()?;
-        say_text(&faults, say)
+        say.quoted(&faults)
     }
 
     /// `settings`.
@@ -85,9 +84,9 @@ impl Files {
         let status = tell_settings(say.alloc, &mut self.text.as_slice(), &mut told, &mut faults);
         say.number(u64::from(status))?;
         say.gap()?;
-        say_text(&told, say)?;
+        say.quoted(&told)?;
         say.gap()?;
-        say_text(&faults, say)?;
+        say.quoted(&faults)?;
         self.text = told;
         Ok(())
     }
@@ -134,7 +133,7 @@ pub(crate) fn ask(words: &mut Words<'_>, say: &mut Say) -> Result<(), Trouble> {
     }
     words.end()?;
     match path_behind(name, &spoken) {
-        Some(path) => say_text(path.as_bytes(), say),
+        Some(path) => say.quoted(path.as_bytes()),
         None => say.none(),
     }
 }

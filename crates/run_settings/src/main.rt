@@ -19,7 +19,6 @@
 
 mod files;
 mod light;
-mod texts;
 
 use crate::files::Files;
 use std::alloc::Global;
