@@ -12,6 +12,7 @@ use crate::inbox::{Inbox, Input};
 use crate::member::{Member, NotYet, Open};
 use crate::metrics::{Metrics, Status};
 use crate::network::{Current, Letter, Network};
+use crate::recorded;
 use crate::reports::{ReportLog, SignedReport};
 use crate::signatures::SignatureFile;
 use crate::wire::{
@@ -213,9 +214,14 @@ impl Engine {
             entered: 0,
             early: Early::default(),
         };
+        let recorded = recorded::packets(&first.actions, self.sealer.me);
+        self.signatures.sync()?;
         self.reports.remember()?;
         self.carry_out(&mut life, first)?;
         self.reports.forget();
+        for (channel, bytes) in recorded {
+            self.send(None, channel, bytes);
+        }
         Ok(Some(life))
     }
 
@@ -260,6 +266,8 @@ impl Engine {
             };
             replies.push(reply);
         }
+        // The record may rest on what came, and a killed process leaves what was written.
+        self.signatures.write()?;
         // Own votes are signed anew each time: with certificates alone others' signatures leave.
         let mut actions = replies.iter().flat_map(|reply| &reply.actions);
         let is_shown = actions.any(|action| {

@@ -1,8 +1,9 @@
 //! The signatures that were seen to verify, so that this member can send on what its node hands out.
 //!
 //! A node knows attestations alone. So the host keeps, for each (signer, hash) that came in with a signature that verifies, that
-//! signature: in memory, and in a file that is synced before anything rests on it. A crash may lose what wasn't synced, and a torn end
-//! is cut when the file is opened: what is lost so can't be shown by this member any more, which costs others time and nothing else.
+//! signature: in memory, and in a file that is written behind each batch of events and synced before anything that rests on it leaves. A
+//! kill may lose what wasn't written, a crash of the machine what wasn't synced, and a torn end is cut when the file is opened. What is
+//! lost so this member can't show until it hears it again: that is why own votes go out again behind each opening.
 
 use crate::committee::Signature;
 use crate::files;
@@ -62,6 +63,8 @@ pub struct SignatureFile {
     file: File,
     entries: usize,
     waiting: Vec<u8>,
+    /// Something was written that wasn't synced.
+    is_unsynced: bool,
 }
 
 fn spelled(attestation: &Attestation, view: u64, signature: &Signature) -> [u8; ENTRY] {
@@ -117,6 +120,7 @@ impl SignatureFile {
             file,
             entries: whole / ENTRY,
             waiting: Vec::new(),
+            is_unsynced: false,
         })
     }
 
@@ -142,19 +146,34 @@ impl SignatureFile {
         signatures.insert(attestation, kept);
     }
 
-    /// Makes sure that all that was kept survives a crash, and answers whether anything had to be written for it.
+    /// Writes what was kept: it survives the end of this process, however it comes.
     ///
     /// # Errors
     ///
     /// Those of the file: what waits is then not known to be there, and this member can't go on.
-    pub fn sync(&mut self) -> Result<bool> {
+    pub fn write(&mut self) -> Result<()> {
         if self.waiting.is_empty() {
-            return Ok(false);
+            return Ok(());
         }
+        self.is_unsynced = true;
         self.file.write_all(&self.waiting)?;
-        self.file.sync_data()?;
         self.entries += self.waiting.len() / ENTRY;
         self.waiting.clear();
+        Ok(())
+    }
+
+    /// Makes sure that all that was kept survives a crash, and answers whether anything had to be synced for it.
+    ///
+    /// # Errors
+    ///
+    /// As of [`SignatureFile::write`].
+    pub fn sync(&mut self) -> Result<bool> {
+        self.write()?;
+        if !self.is_unsynced {
+            return Ok(false);
+        }
+        self.file.sync_data()?;
+        self.is_unsynced = false;
         Ok(true)
     }
 
@@ -179,6 +198,7 @@ impl SignatureFile {
         self.file = files::open_to_append(&self.path, left.len() as u64)?;
         self.entries = left.len() / ENTRY;
         self.waiting.clear();
+        self.is_unsynced = false;
         Ok(())
     }
 }
@@ -223,6 +243,20 @@ mod tests {
         let third = Signatures::default();
         SignatureFile::open(&path, &third, all).unwrap();
         assert_eq!(third.get(&attestation(2)), Some([2; 64]));
+    }
+
+    #[test]
+    fn what_was_written_is_there_once_and_is_synced_once() {
+        let folder = tempfile::tempdir().unwrap();
+        let path = folder.path().join("signatures");
+        let signatures = Signatures::default();
+        let mut file = SignatureFile::open(&path, &signatures, all).unwrap();
+        file.keep(&signatures, attestation(1), 5, [1; 64]);
+        file.write().unwrap();
+        file.write().unwrap();
+        assert_eq!(fs::read(&path).unwrap().len(), ENTRY);
+        assert!(file.sync().unwrap(), "it was written and not synced");
+        assert!(!file.sync().unwrap(), "nothing waits");
     }
 
     #[test]

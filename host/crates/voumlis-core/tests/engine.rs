@@ -154,6 +154,9 @@ fn opening(events: Events, say: Say, mut held: u32) -> Box<Open> {
         let mut actions = vec![Action::Wake(50)];
         if life > 1 {
             actions.push(Action::Report(nullification(4, 1)));
+            let mut own = nullify(2, 0).bytes();
+            own[0] = 3;
+            actions.push(Action::Report(own));
         }
         let first = reply(actions);
         Ok((Box::new(node) as Box<dyn Member>, first))
@@ -241,6 +244,49 @@ fn signatures_are_on_the_disk_before_what_rests_on_them_leaves() {
     };
     let signed: Vec<Signature> = (1..4).map(|it| signature(&nullify(1, it))).collect();
     assert_eq!(sealed.signatures, signed);
+    member.stop();
+}
+
+#[test]
+fn signatures_are_written_before_the_next_event_whether_or_not_anything_leaves() {
+    let folder = tempfile::tempdir().unwrap();
+    let network = Remembered::default();
+    let member = Running::new(folder.path(), LONG, network, |_, _| reply(Vec::new()));
+    let vote = nullify(1, 1);
+    member.packet(1, vote.bytes(), vec![signature(&vote)]);
+    until("the signature is in the file", || {
+        let disk = std::fs::read(folder.path().join("signatures")).unwrap();
+        let mut parts = disk.windows(64);
+        parts.any(|part| part == signature(&vote)).then_some(())
+    });
+    member.stop();
+}
+
+#[test]
+fn what_the_record_has_goes_to_all_again_behind_each_opening() {
+    let folder = tempfile::tempdir().unwrap();
+    let short = Duration::from_millis(200);
+    let network = Remembered::default();
+    let member = Running::new(folder.path(), short, network, |_, _| reply(Vec::new()));
+    // By others' votes the signatures of the nullification are known of which the next opening tells.
+    for signer in 1..4 {
+        let vote = nullify(1, signer);
+        member.packet(signer, vote.bytes(), vec![signature(&vote)]);
+    }
+    let own = nullify(2, 0);
+    let expected = [
+        (Channel::Certificates, nullification(1, 1)),
+        (Channel::Votes, own.bytes()),
+    ];
+    until("both go out", || {
+        let sent = member.network.sent.lock().unwrap();
+        let packets = sent.iter().filter_map(|(to, frame)| match frame {
+            Frame::Packet(sealed) if to.is_none() => Some((sealed.channel, sealed.plain.clone())),
+            _ => None,
+        });
+        let packets: Vec<_> = packets.collect();
+        packets.ends_with(&expected).then_some(())
+    });
     member.stop();
 }
 
@@ -445,7 +491,8 @@ fn reports_are_kept_with_signatures_and_what_is_told_anew_is_not_written_again()
     member.stop();
     let stored = std::fs::read(folder.path().join("reports")).unwrap();
     let (reports, size) = read_all(&stored);
-    assert_eq!((reports.len(), size), (1, stored.len()));
+    // The nullification once, and the own vote that the second opening alone tells of.
+    assert_eq!((reports.len(), size), (2, stored.len()));
     assert_eq!(reports[0].signatures, signed);
 }
 

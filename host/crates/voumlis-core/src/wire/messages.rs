@@ -184,20 +184,52 @@ impl Report {
     }
 }
 
+impl VoteKind {
+    /// The byte in front of a packet that has it.
+    fn tag(self) -> u8 {
+        let tag = VOTES.iter().position(|kind| *kind == self);
+        tag.expect("one of the three") as u8
+    }
+}
+
+impl On {
+    fn put(&self, bytes: &mut Vec<u8>) {
+        let round = self.round();
+        put_number(bytes, round.epoch);
+        put_number(bytes, round.view);
+        if let On::Proposal(proposal) = self {
+            put_number(bytes, proposal.parent);
+            bytes.extend(proposal.payload);
+        }
+    }
+}
+
+impl Attestation {
+    fn put(&self, bytes: &mut Vec<u8>) {
+        put_number(bytes, u64::from(self.signer));
+        bytes.extend(self.hash);
+    }
+}
+
 impl Vote {
     /// Its bytes as a packet on the channel of votes.
     pub fn bytes(&self) -> Vec<u8> {
-        let tag = VOTES.iter().position(|kind| *kind == self.kind);
-        let mut bytes = vec![tag.expect("one of the three") as u8];
-        let round = self.on.round();
-        put_number(&mut bytes, round.epoch);
-        put_number(&mut bytes, round.view);
-        if let On::Proposal(proposal) = self.on {
-            put_number(&mut bytes, proposal.parent);
-            bytes.extend(proposal.payload);
-        }
-        put_number(&mut bytes, u64::from(self.attestation.signer));
-        bytes.extend(self.attestation.hash);
+        let mut bytes = vec![self.kind.tag()];
+        self.on.put(&mut bytes);
+        self.attestation.put(&mut bytes);
+        bytes
+    }
+}
+
+impl Certificate {
+    /// Its bytes as a packet on the channel of certificates.
+    pub fn bytes(&self) -> Vec<u8> {
+        let mut bytes = vec![self.kind.tag()];
+        self.on.put(&mut bytes);
+        put_number(&mut bytes, self.attestations.len() as u64);
+        self.attestations
+            .iter()
+            .for_each(|attestation| attestation.put(&mut bytes));
         bytes
     }
 }
