@@ -255,7 +255,15 @@ impl Workload {
             key: &key,
             operation: &operation,
         };
-        match self.connections.attempt(member, &asked, LAST_WITHIN).await {
+        let end = Instant::now() + LAST_WITHIN;
+        let answered = loop {
+            match self.connections.attempt(member, &asked, LAST_WITHIN).await {
+                // It wasn't taken in: a member has room for so many calls at a time.
+                Attempt::Refused if Instant::now() < end => sleep(Duration::from_millis(200)).await,
+                other => break other,
+            }
+        };
+        match answered {
             Attempt::Done(told, view) => {
                 self.recorder
                     .record(client.process, Happened::Ok { told, view });
