@@ -1,5 +1,5 @@
 -- A member by its settings: whose record it has, in which committee it is and who leads there, and what its program comes to.
-use Rattle.std.specs.Prelude.{◌≡◌, ◌≢◌, ◌⊎◌, ◌×◌, ℕ, List, Bool, Option, Some, None, Result, Ok, Err, IfErr, OnOk, codes, true, ⊤}
+use Rattle.std.specs.Prelude.{◌≡◌, ◌⊎◌, ℕ, List, Bool, Option, Some, Result, Err, IfErr, OnOk, codes, true, ⊤}
 use Rattle.types_codec.specs.declared.codec.CodecError.{CodecError}
 use Rattle.types_core.specs.declared.scheme.Scheme.{Ghosts}
 use Rattle.types_terms.specs.Rotation.{Rotation}

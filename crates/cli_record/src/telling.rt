@@ -1,14 +1,10 @@
 //! What is said of a record's file that no node is opened over.
 
-ghost use Rattle.std.specs.Prelude.{◌≡◌, ◌≢◌, ◌++◌, ◌⊎◌, List, Option, ℕ, OnOk, string_bytes};
+ghost use Rattle.std.specs.Prelude.{◌≡◌, ◌≢◌};
 ghost use Rattle.std.specs.IoError.{error_kind};
 ghost use Rattle.std.specs.declared.io.ErrorKind.TheVariants.{OutOfMemory};
-ghost use Rattle.cli_audit.specs.Lines.{trouble_line};
 ghost use Rattle.cli_audit.specs.declared.trouble.Trouble.TheVariants.{Device, Memory};
-ghost use Rattle.cli_opening.specs.Saying.{barred_words_by};
-ghost use Rattle.cli_record.specs.Telling.{TellsLeft, TellsUnopened, cause_of, fault_of};
-ghost use Rattle.simplex_cli.specs.Ending.{ending_line, memory_line};
-ghost use Rattle.types_codec.specs.Front.{AppendsFront};
+ghost use Rattle.cli_record.specs.Telling.{TellsLeft, TellsUnopened, fault_of};
 
 use cli_audit::{Trouble, report};
 use cli_opening::{Barred, say_barred_by};
@@ -49,6 +45,15 @@ fn push_cause(text: &mut String, path: &str, error: &io::Error) -> Result<(), Al
     }
 }
 
+/// Those words, or none where there is no memory for them.
+fn cause_of(alloc: Global, path: &str, error: &io::Error) -> String {
+    let mut words = String::new(alloc);
+    match push_cause(&mut words, path, error) {
+        Ok(()) => words,
+        Err(_) => String::new(alloc),
+    }
+}
+
 /// Tells why the record's file at this path was not opened, and answers the status.
 pub fn unopened<F: Write>(alloc: Global, path: &str, error: &io::Error, faults: &mut F) -> u8
     ensures status { result ≡ 1 }
@@ -56,10 +61,8 @@ pub fn unopened<F: Write>(alloc: Global, path: &str, error: &io::Error, faults: 
     ensures device { error_kind error.now ≢ OutOfMemory → TellsUnopened Device (F.contents faults.old) (F.contents faults.new) }
 {
     let status = report(Err(trouble_of(error)), faults);
-    let mut words = String::new(alloc);
-    if push_cause(&mut words, path, error).is_ok() {
-        let _ = write_whole(faults, words.as_bytes());
-    }
+    let words = cause_of(alloc, path, error);
+    let _ = write_whole(faults, words.as_bytes());
     status
 }
 
