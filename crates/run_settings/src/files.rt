@@ -3,6 +3,7 @@
 ghost use Rattle.cli_settings.specs.Checking.{IsGood};
 
 use crate::light::{chain, one};
+use crate::member::member_of;
 use cli_file::{path_behind, read_file, tell_settings};
 use cli_settings::Settings;
 use cli_toml::MemberFile;
@@ -89,6 +90,17 @@ impl Files {
         say.quoted(&faults)?;
         self.text = told;
         Ok(())
+    }
+
+    /// `member CUTS DISK EVENTS`.
+    pub(crate) fn member(&mut self, words: &mut Words<'_>, say: &mut Say) -> Result<(), Trouble> {
+        let Some(file) = &self.file else {
+            return Err(Trouble::Condition);
+        };
+        match file.settings.check() {
+            Ok(()) => member_of(&file.settings, words, say),
+            Err(_) => Err(Trouble::Condition),
+        }
     }
 
     /// The calls about certificates.
