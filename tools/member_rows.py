@@ -8,12 +8,11 @@ import hashlib
 from dataclasses import dataclass
 
 from member import judging, words
-from member.codec import Reader, artifact_bytes, event_bytes, reply_bytes
-from member.positions import Terms
+from member.codec import artifact_bytes, event_bytes, reply_bytes
 from member.record import record
 from member.scheme import PlainScheme
 from member.setup import Setup
-from member.values import Certificate, Finalized
+from member.values import FINALIZATION, Certificate, Round
 from script_rows import TOP, Script, digits, quoted
 
 PROGRAM = {
@@ -61,7 +60,7 @@ def setup_of(given):
 def found_line(artifacts, cut):
     """What is said of a record that is opened."""
     highest = max((it.view for it in artifacts), default=0)
-    final = max((it.view for it in artifacts if isinstance(it, Certificate) and it.kind == "finalization"), default=0)
+    final = max((it.view for it in artifacts if isinstance(it, Certificate) and it.kind == FINALIZATION), default=0)
     return (f"record: m: {len(artifacts)} entries, up to view {highest}, finalized up to view {final}; "
             f"{cut} bytes behind them are left out\n")
 
@@ -87,14 +86,15 @@ class Life:
         if name in ("open", "event"):
             self.replies += reply_bytes(words.reply_of(answer, self.setup.scheme))
 
-    def rows(self, script):
+    def rows(self, script, cuts=0, held=None, cut=0):
+        """The rows of it; with `cuts` over other bytes, of which so many are cut behind the gate of the same entries."""
         lines = [f"{key}={value}" for key, value in self.given.items()]
         script.reset()
         script.ask("lines " + " ".join(lines), sum(len(it) + 1 for it in lines))
         script.ask("file", '0 ""')
         script.ask(
-            f"member 0 {digits(self.held)} {digits(self.events)}",
-            f"0 {digits(self.replies)} {quoted(found_line(self.artifacts, 0))} {digits(judging.bytes_of(record(self.case.h)))}",
+            f"member {cuts} {digits(self.held if held is None else held)} {digits(self.events)}",
+            f"0 {digits(self.replies)} {quoted(found_line(self.artifacts, cut))} {digits(judging.bytes_of(record(self.case.h)))}",
         )
 
 
@@ -122,7 +122,7 @@ def lives(script):
 # Records that are looked at first
 
 FRONT = ("members=4", "member=0")
-NULLIFIED, WAKES = "nullify 0 0 0 1", "000108e807"
+WAKES = "000108e807"
 
 
 def entries(*bodies):
@@ -147,7 +147,9 @@ def unlawful(position):
 
 def records(script):
     scheme = PlainScheme(4)
-    given_up, second = (artifact_bytes(scheme.sign("nullify", judging.words.Round(0, view), 0)) for view in (1, 2))
+    first, second = (Round(0, view) for view in (1, 2))
+    given_up, next_given_up = (artifact_bytes(scheme.sign("nullify", it, 0)) for it in (first, second))
+    certified = artifact_bytes(scheme.assemble("nullification", first, [scheme.sign("nullify", first, it) for it in range(3)]))
     whole = entries(given_up)
     for first in (2, 55, 255):
         left(script, "no record begins so", FRONT, bytes([first, 1, 2]), 6,
@@ -160,15 +162,21 @@ def records(script):
     for key, value in (("base", '"simplex2"'), ("epoch", "1")):
         left(script, f"a record of another {key}", (*FRONT, f"{key}={value}"), whole + b"\0", "5 at 0", unlawful(0))
     left(script, "a record of another member", ("members=4", "member=1"), whole + b"\0", "5 at 0", unlawful(0))
-    left(script, "of terms of four views no vote gives up their second alone", FRONT, entries(second) + b"\0", "5 at 0", unlawful(0))
-    three = artifact_bytes(scheme.assemble("nullification", judging.words.Round(0, 1), [scheme.sign("nullify", judging.words.Round(0, 1), it) for it in range(3)]))
-    left(script, "three are no quorum of five", ("members=5", "member=0"), entries(three) + b"\0", "5 at 0", unlawful(0))
+    left(script, "of terms of four views the second isn't given up behind the first", FRONT,
+         entries(given_up, certified, next_given_up) + b"\0", "5 at 2", unlawful(2))
+    left(script, "three are no quorum of five", ("members=5", "member=0"), entries(certified) + b"\0", "5 at 0", unlawful(0))
     torn = whole + b"\7"
     left(script, "a last gate that isn't closed", FRONT, torn, 6,
          f"{LEFT}since its end is gone: no whole entry stands behind the gate at byte {len(whole)}, which isn't closed{CUTS}")
     behind = whole + b"\0" + entries(given_up)
     left(script, "more than a crash leaves", FRONT, behind, 6,
          f"{LEFT}since more than a crash leaves stands behind the gate at byte {len(whole)}{CUTS}")
+    life = Life(dict(it.split("=") for it in FRONT))
+    life.found("nullify 0 0 0 1")
+    life.line("open 0", "report nullify 0 0 0 1 , wake 5000")
+    for title, data, cut in (("the gate is closed by who asks to cut", torn, 0), ("and what stands behind it is cut", behind, len(whole))):
+        script.note("a member by a file: " + title)
+        life.rows(script, 1, data, cut)
     script.note("a member by a file: an input that breaks off inside an event")
     script.reset()
     script.ask("lines " + " ".join(FRONT), sum(len(it) + 1 for it in FRONT))
