@@ -168,7 +168,7 @@ def records(script):
     torn = whole + b"\7"
     left(script, "a last gate that isn't closed", FRONT, torn, 6,
          f"{LEFT}since its end is gone: no whole entry stands behind the gate at byte {len(whole)}, which isn't closed{CUTS}")
-    behind = whole + b"\0" + entries(given_up)
+    behind = whole + b"\0" + entries(given_up)[1:] + b"\1"
     left(script, "more than a crash leaves", FRONT, behind, 6,
          f"{LEFT}since more than a crash leaves stands behind the gate at byte {len(whole)}{CUTS}")
     life = Life(dict(it.split("=") for it in FRONT))

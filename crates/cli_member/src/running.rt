@@ -104,10 +104,11 @@ pub fn member_over<K: Disk, R: Source, W: Sink, F: Writes>(
         (output.new ≡ output.old) ended (R.remaining input.old) (W.contents output.old) (W.contents output.new)) }
 {
     let mut disk = disk;
-    match look_for(alloc, settings, cuts, &mut disk) {
-        Ok(found) => say_found(alloc, path, found, faults),
+    let found = match look_for(alloc, settings, cuts, &mut disk) {
+        Ok(found) => found,
         Err(barred) => return (left(alloc, path, ASKED, barred, faults), disk),
-    }
+    };
+    say_found(alloc, path, found, faults);
     let (ended, disk) = drive_member(alloc, settings, disk, input, output);
     (tell(alloc, ended, faults), disk)
 }

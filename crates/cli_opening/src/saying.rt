@@ -70,12 +70,7 @@ fn push_found(text: &mut String, path: &str, found: Found) -> Result<(), AllocEr
 
 /// Ends the text with the words of why a file is left as it is.
 #[tactic(auto, unfolding(crate::specs::Saying::barred_words_by))]
-fn push_barred(
-    text: &mut String,
-    path: &str,
-    asked: &str,
-    barred: Barred,
-) -> Result<(), AllocError>
+fn push_barred(text: &mut String, path: &str, asked: &str, barred: Barred) -> Result<(), AllocError>
     ensures { OnOk result (string_bytes text.new ≡ string_bytes text.old ++ barred_words_by path.now asked.now barred) }
 {
     match barred {

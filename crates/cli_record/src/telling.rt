@@ -82,13 +82,7 @@ fn as_fault(barred: Barred) -> OpenFault
 
 /// Tells why the file at this path is left as it is, behind the line of the fault that it is, and answers the status. What else may
 /// have been said of its record is asked in these words.
-pub fn left<F: Write>(
-    alloc: Global,
-    path: &str,
-    asked: &str,
-    barred: Barred,
-    faults: &mut F,
-) -> u8
+pub fn left<F: Write>(alloc: Global, path: &str, asked: &str, barred: Barred, faults: &mut F) -> u8
     ensures status { result ≡ 1 }
     ensures told { TellsLeft path.now asked.now barred (F.contents faults.old) (F.contents faults.new) }
 {

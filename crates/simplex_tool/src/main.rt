@@ -7,8 +7,8 @@ mod member;
 ghost use Rattle.std.specs.Prelude.{◌<◌};
 ghost use Rattle.cli_tool.specs.Command.{IsAsked};
 
-use cli_audit::{Trouble, read_all, report};
 use crate::member::run_file;
+use cli_audit::{Trouble, read_all, report};
 use cli_file::{HELP, path_behind, tell_settings};
 use cli_opening::{look_at, say_barred, say_found};
 use cli_tool::{Call, Request, misused, parse_call, run_request, unopened, words_unread};
