@@ -17,13 +17,13 @@ ghost use Rattle.simplex_batcher.specs.Admission.{contradicts, IsBlocked, report
 ghost use Rattle.batcher_verifier.specs.ConstructionResult.{after, after_construction, kinds_left, HasFailed, IsBatch, IsReadable, IsVoted};
 ghost use Rattle.simplex_batcher.specs.Rounds.{RoundKeeps, AtEach};
 
-use crate::votes::{notarized_in, round_of, round_of_certificate};
+use crate::votes::{notarized_in, round_of_certificate};
 use batcher_admission::{Admission, are_against, copied, refusal, report};
 use batcher_assembly::in_turn;
 use batcher_verifier::{
     Batch, BatcherFault, Kind, Verifier, batches_rest_on_accepted_votes, constructions_end,
     forwarding_changes_no_votes, kind_of, kind_of_certificate, no_quorum_is_lost,
-    what_is_due_has_no_certificate, what_is_new_may_be_added,
+    round_of, what_is_due_has_no_certificate, what_is_new_may_be_added,
 };
 use simplex_messages::{Activity, Certificate, Vote};
 use std::alloc::{AllocError, Global};
@@ -157,16 +157,17 @@ impl<S: Scheme<D>, D: Digest> Round<S, D> {
         if let Some(admission) = self.refusal(sender, &vote) {
             return Ok(admission);
         }
-        self.put(&vote, false)?;
+        let added = self.put(&vote, false)?;
         Ok(Admission {
-            added: true,
+            added,
             block: false,
-            report: Some(report(&vote)),
+            report: if added { Some(report(&vote)) } else { None },
         })
     }
 
-    /// Puts down a vote that nothing stands in the way of.
-    fn put(&mut self, vote: &Vote<S, D>, own: bool) -> Result<(), AllocError>
+    /// Puts down a vote that nothing stands in the way of, and answers whether it did.
+    fn put(&mut self, vote: &Vote<S, D>, own: bool) -> Result<bool, AllocError>
+        ensures added { IfOk result (λ added. AtEach D.PartialEq.eq S.Scheme S.batchable self.old (λ s h. IsNew s h vote.now → added ≡ true)) }
         ensures taken { OnOk result (AtEach D.PartialEq.eq S.Scheme S.batchable self.old (λ s h.
             own ≡ false
             → vote_signer vote.now < s.members
@@ -182,8 +183,8 @@ impl<S: Scheme<D>, D: Digest> Round<S, D> {
             (AtEach D.PartialEq.eq S.Scheme S.batchable self.old (λ s h. RoundKeeps D.PartialEq.eq S.Scheme S.batchable s self.new h)) }
     {
         what_is_new_may_be_added::<S, D>();
-        self.verifier.add(copied(vote), own)?;
-        Ok(())
+        let added = self.verifier.add(copied(vote), own)?;
+        Ok(added)
     }
 
     /// Takes an own vote, which attests: its report where it is new, and nothing where one of its kind, or of nullify
@@ -225,8 +226,11 @@ impl<S: Scheme<D>, D: Digest> Round<S, D> {
             }
             return Ok(None);
         }
-        self.put(&vote, true)?;
-        Ok(Some(report(&vote)))
+        if self.put(&vote, true)? {
+            Ok(Some(report(&vote)))
+        } else {
+            Ok(None)
+        }
     }
 
     /// Records a certificate: whether it is a notarization that selects a new proposal.

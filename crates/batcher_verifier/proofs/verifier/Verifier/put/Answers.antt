@@ -4,7 +4,7 @@ use Rattle.batcher_verifier.specs.Lawful.{MayHappen}
 use Rattle.batcher_verifier.specs.Keeping.{selection_of, VerifierKeeps}
 use Rattle.batcher_verifier.proofs.Choosing.{none-right, none-left}
 use Rattle.batcher_verifier.proofs.Adding.{came, selection-came, may-add, added-keeps, refused-err}
-use Rattle.batcher_verifier.proofs.verifier.Verifier.add.Goals as goal
+use Rattle.batcher_verifier.proofs.verifier.Verifier.put.Goals as goal
 
 pub returns-clause-waits : goal.returns-clause-waits
 unfolding VerifierKeeps
