@@ -16,7 +16,7 @@ use Rattle.batcher_rows.specs.declared.rows.Held.{Held}
 use Rattle.batcher_rows.specs.declared.rows.Row.{Row}
 use Rattle.batcher_rows.specs.declared.rows.Rows.{Rows}
 use Rattle.batcher_rows.specs.Votes.{is_kind, is_of, is_in_way, vote_kind}
-use Rattle.batcher_rows.specs.Rows.{AreNewest, NoneInWay, blocks, blocks_in, cell, counted_in, is_aside, is_marked, newest_of, stands, vote_in, votes_in}
+use Rattle.batcher_rows.specs.Rows.{AreNewest, NoneInWay, StrangersFree, blocks, blocks_at, blocks_in, cell, counted_in, is_aside, is_marked, newest_of, stands, vote_in, votes_in}
 use Rattle.batcher_rows.proofs.Holding.{found-passes, in-its-way, side-same}
 
 -- a vote that doesn't count is neither known to attest nor does it wait
@@ -81,11 +81,6 @@ module _ {S D P G C : Type 0} where
       go : (c : Bool) → stands sure kind x ≡ c → (if c then Some x.vote else None) ≡ Some u → (y : Held S D P G C) × (Some x ≡ Some y) × (stands sure kind y ≡ true) × (y.vote ≡ u)
       go true is e = (x, refl, is, cc e)
       go false is e = absurd (cc e)
-
-  -- the row of this place, if there is one, doesn't block the vote
-  abbrev pub blocks_at : Vote S D P G C → Option (Row S D P G C) → Bool
-  blocks_at v None = false
-  blocks_at v (Some row) = blocks v row
 
   module _ (v : Vote S D P G C) where
     -- what counts of a row that blocks nothing stands in no one's way
@@ -168,54 +163,69 @@ module _ {S D P G C : Type 0} where
     pub free-rows : (rows : Rows S D P G C) → NoneInWay rows v → (i : ℕ) → blocks_at v (slice_get rows.rows.items i) ≡ false
     free-rows rows none = none-blocks rows.rows.items none
 
-    -- of a member one looks at its own row
-    module _ (rows : Rows S D P G C) (members : ℕ) (votes : List (Vote S D P G C)) (k : AreNewest rows members votes) (member : vote_signer v < members) where
+    -- a row that blocks the vote holds one that stands in its way
+    unless : (rows : List (Row S D P G C)) (i : ℕ)
+        → ((row : Row S D P G C) (x : Held S D P G C) → slice_get rows i ≡ Some row → cell (is_kind Notarization (vote_kind v)) row ≡ Some x → is_in_way v x.vote ≡ true → blocks_at v (slice_get rows i) ≡ false)
+        → blocks_at v (slice_get rows i) ≡ false
+    unless rows i where-way = go (slice_get rows i) refl
+      where
+        go : (o : Option (Row S D P G C)) → slice_get rows i ≡ o → blocks_at v (slice_get rows i) ≡ false
+        go None at = rw at refl
+        go (Some row) at = held (cell (is_kind Notarization (vote_kind v)) row) refl
+          where
+            held : (o : Option (Held S D P G C)) → cell (is_kind Notarization (vote_kind v)) row ≡ o → blocks_at v (slice_get rows i) ≡ false
+            held None is = rw (at, is) refl
+            held (Some x) is = deeper (is_in_way v x.vote) refl
+              where
+                deeper : (c : Bool) → is_in_way v x.vote ≡ c → blocks_at v (slice_get rows i) ≡ false
+                deeper true way = where-way row x at is way
+                deeper false way = rw (at, is) (never (not (is_aside x.mark)) (is_in_way v x.vote) way)
+
+    module _ (rows : Rows S D P G C) (members : ℕ) (votes : List (Vote S D P G C)) (k : AreNewest rows members votes) where
       side : Bool
       side = is_kind Notarization (vote_kind v)
 
-      -- a vote in its way stands in its own row
-      own-row : (i : ℕ) (row : Row S D P G C) (x : Held S D P G C) → slice_get rows.rows.items i ≡ Some row → cell side row ≡ Some x → is_in_way v x.vote ≡ true → i ≡ vote_signer v
-      own-row i row x at held way = elim (cases_lt i members) [
-        | inl low ↦
-            let found = sym (k.newest side i low) ∙ newest in
-            sym (of-signer side i x.vote (found-passes (is_of side i) votes x.vote found)) ∙ of-its-signer v x.vote way
-        | inr high ↦
-            let far = k.strangers side i x.vote high newest in
-            let one = of-its-signer v x.vote way in
-            absurd (omega (arith, far, one, member))
-      ]
-        where
-          newest : newest_of side rows i ≡ Some x.vote
-          newest = rw (at, held) refl
+      newest : (i : ℕ) (row : Row S D P G C) (x : Held S D P G C) → slice_get rows.rows.items i ≡ Some row → cell side row ≡ Some x → newest_of side rows i ≡ Some x.vote
+      newest i row x at held = rw (at, held) refl
 
-      pub member-free : blocks_at v (slice_get rows.rows.items (vote_signer v)) ≡ false → (i : ℕ) → blocks_at v (slice_get rows.rows.items i) ≡ false
-      member-free free i = go (slice_get rows.rows.items i) refl
-        where
-          go : (o : Option (Row S D P G C)) → slice_get rows.rows.items i ≡ o → blocks_at v o ≡ false
-          go None at = refl
-          go (Some row) at = held (cell side row) refl
-            where
-              held : (o : Option (Held S D P G C)) → cell side row ≡ o → blocks_in v o ≡ false
-              held None is = refl
-              held (Some x) is = deeper (is_in_way v x.vote) refl
-                where
-                  deeper : (c : Bool) → is_in_way v x.vote ≡ c → not (is_aside x.mark) && is_in_way v x.vote ≡ false
-                  deeper false way = never (not (is_aside x.mark)) (is_in_way v x.vote) way
-                  deeper true way =
-                      let mine : i ≡ vote_signer v = own-row i row x at is way in
-                      let blocked : blocks_at v (slice_get rows.rows.items i) ≡ false = subst (λ (n : ℕ). blocks_at v (slice_get rows.rows.items n) ≡ false) (sym mine) free in
-                      rw (at, is) at blocked
+      -- what stands in its way in a member's row is of that member
+      member-row : (i : ℕ) (row : Row S D P G C) (x : Held S D P G C) → i < members → slice_get rows.rows.items i ≡ Some row → cell side row ≡ Some x → is_in_way v x.vote ≡ true → i ≡ vote_signer v
+      member-row i row x low at held way =
+          let found = sym (k.newest side i low) ∙ newest i row x at held in
+          sym (of-signer side i x.vote (found-passes (is_of side i) votes x.vote found)) ∙ of-its-signer v x.vote way
 
-    -- a walk over the rows: one more doesn't block it
-    pub one-more : (rows : List (Row S D P G C)) (n : ℕ) (row : Row S D P G C) → slice_get rows n ≡ Some row → blocks v row ≡ false → ((i : ℕ) → i < n → blocks_at v (slice_get rows i) ≡ false)
-        → (i : ℕ) → i < n + 1 → blocks_at v (slice_get rows i) ≡ false
-    one-more rows n row at free before i l = elim (cases_lt i n) [
-      | inl low ↦ before i low
-      | inr high ↦ let same : i ≡ n = omega (arith, l, high) in rw (same, at) free
+      -- and behind the members' rows of a stranger
+      stranger-row : (i : ℕ) (row : Row S D P G C) (x : Held S D P G C) → members ≤ i → slice_get rows.rows.items i ≡ Some row → cell side row ≡ Some x → is_in_way v x.vote ≡ true → members ≤ vote_signer v
+      stranger-row i row x high at held way =
+          let far = k.strangers side i x.vote high (newest i row x at held) in
+          let one = of-its-signer v x.vote way in
+          omega (arith, far, one)
+
+      -- of a member one looks at its own row
+      pub member-free : vote_signer v < members → blocks_at v (slice_get rows.rows.items (vote_signer v)) ≡ false → (i : ℕ) → blocks_at v (slice_get rows.rows.items i) ≡ false
+      member-free member free i = unless rows.rows.items i (λ row x at held way. elim (cases_lt i members) [
+        | inl low ↦ subst (λ (n : ℕ). blocks_at v (slice_get rows.rows.items n) ≡ false) (sym (member-row i row x low at held way)) free
+        | inr high ↦ let far = stranger-row i row x high at held way in absurd (omega (arith, far, member))
+      ])
+
+      -- and of a stranger at the rows behind the members'
+      pub stranger-free : members ≤ vote_signer v → StrangersFree v rows → (i : ℕ) → blocks_at v (slice_get rows.rows.items i) ≡ false
+      stranger-free stranger free i = unless rows.rows.items i (λ row x at held way. elim (cases_lt i members) [
+        | inl low ↦ let mine = member-row i row x low at held way in absurd (omega (arith, low, mine, stranger))
+        | inr high ↦ free i (rw k.members_are high)
+      ])
+
+    -- a walk over the rows behind the members': one more doesn't block it
+    pub one-more : (rows : List (Row S D P G C)) (members n : ℕ) → blocks_at v (slice_get rows n) ≡ false → ((i : ℕ) → members ≤ i → i < n → blocks_at v (slice_get rows i) ≡ false)
+        → (i : ℕ) → members ≤ i → i < n + 1 → blocks_at v (slice_get rows i) ≡ false
+    one-more rows members n free before i behind l = elim (cases_lt i n) [
+      | inl low ↦ before i behind low
+      | inr high ↦ let same : i ≡ n = omega (arith, l, high) in rw same free
     ]
 
-    pub all-walked : (rows : List (Row S D P G C)) (n : ℕ) → length rows ≤ n → ((i : ℕ) → i < n → blocks_at v (slice_get rows i) ≡ false) → (i : ℕ) → blocks_at v (slice_get rows i) ≡ false
-    all-walked rows n long before i = elim (cases_lt i n) [
-      | inl low ↦ before i low
+    pub all-walked : (rows : List (Row S D P G C)) (members n : ℕ) → length rows ≤ n → ((i : ℕ) → members ≤ i → i < n → blocks_at v (slice_get rows i) ≡ false)
+        → (i : ℕ) → members ≤ i → blocks_at v (slice_get rows i) ≡ false
+    all-walked rows members n long before i behind = elim (cases_lt i n) [
+      | inl low ↦ before i behind low
       | inr high ↦ rw (slice_get_past rows i (omega (arith, long, high))) refl
     ]

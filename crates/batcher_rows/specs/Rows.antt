@@ -138,6 +138,15 @@ module _ {S D P G C : Type 0} where
   abbrev pub blocks : Vote S D P G C → Row S D P G C → Bool
   blocks v row = blocks_in v (cell (is_kind Notarization (vote_kind v)) row)
 
+  -- the row of this place, if there is one, does
+  abbrev pub blocks_at : Vote S D P G C → Option (Row S D P G C) → Bool
+  blocks_at v None = false
+  blocks_at v (Some row) = blocks v row
+
+  -- no row behind those of the members does
+  abbrev pub StrangersFree : Vote S D P G C → Rows S D P G C → Type 0
+  StrangersFree v rows = (i : ℕ) → members_of rows ≤ i → blocks_at v (slice_get rows.rows.items i) ≡ false
+
   -- no vote that counts stands in the way of this one
   abbrev pub NoneInWay : Rows S D P G C → Vote S D P G C → Type 0
   NoneInWay rows v = (sure : Bool) (kind : Kind) → find (is_in_way v) (votes_of sure kind rows) ≡ None

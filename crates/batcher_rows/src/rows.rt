@@ -9,7 +9,7 @@ ghost use Rattle.simplex_messages.specs.declared.vote.Vote.{Vote};
 ghost use Rattle.simplex_messages.specs.VoteParts.{vote_signer};
 ghost use Rattle.batcher_rows.specs.Votes.{is_kind, is_in_way, is_candidate, vote_kind, vote_attestation, vote_proposal};
 ghost use Rattle.batcher_rows.specs.declared.rows.Row.{Row};
-ghost use Rattle.batcher_rows.specs.Rows.{head_of, is_aside, OthersStay, IsCounted, is_marked, mark_of, stands, vote_in, votes_in, counted_in, tally_at, with_cell, each_cell, kept, settled, members_of, newest_of, votes_of, KindIs, AreNewest, NoneInWay, blocks, PlacesStay, RowsStay, pushed, settled_waiting, settled_verified};
+ghost use Rattle.batcher_rows.specs.Rows.{head_of, is_aside, OthersStay, IsCounted, is_marked, mark_of, stands, vote_in, votes_in, counted_in, tally_at, with_cell, each_cell, kept, settled, members_of, newest_of, votes_of, KindIs, AreNewest, NoneInWay, StrangersFree, blocks, blocks_at, PlacesStay, RowsStay, pushed, settled_waiting, settled_verified};
 
 use crate::vote_kinds::{attestation_of, is_for, is_in_way, kind_of};
 use batcher_assembly::is_listed;
@@ -323,7 +323,8 @@ impl<S: Scheme<D>, D: Digest> Rows<S, D> {
         }
     }
 
-    /// Whether a vote that counts stands in the way of this one: of its signer, and of its kind or, of nullify and finalize, of either.
+    /// Whether a vote that counts stands in the way of this one: of its signer, and of its kind or, of nullify and
+    /// finalize, of either.
     pub fn has_in_way(&self, vote: &Vote<S, D>) -> bool
         ensures { (members : ℕ) (votes : List (Vote S D S.PublicKey S.Signature S.Certificate))
             → AreNewest self.now members votes
@@ -331,20 +332,27 @@ impl<S: Scheme<D>, D: Digest> Rows<S, D> {
     {
         let signer = vote.signer().get();
         if self.members <= signer {
-            return self.has_row_in_way(vote);
+            return self.has_stranger_in_way(vote);
         }
-        match self.rows.get(signer as usize) {
+        self.has_blocking(signer as usize, vote)
+    }
+
+    /// Whether the row of this place, if there is one, blocks the vote.
+    fn has_blocking(&self, place: usize, vote: &Vote<S, D>) -> bool
+        ensures { result ≡ blocks_at vote.now (slice_get self.now.rows.items place) }
+    {
+        match self.rows.get(place) {
             Some(row) => row.blocks(vote),
             None => false,
         }
     }
 
-    /// The same, by a look at each row.
-    fn has_row_in_way(&self, vote: &Vote<S, D>) -> bool
-        ensures { (result ≡ false) ↔ NoneInWay self.now vote.now }
+    /// Whether a row that isn't a member's blocks the vote.
+    fn has_stranger_in_way(&self, vote: &Vote<S, D>) -> bool
+        ensures { (result ≡ false) ↔ StrangersFree vote.now self.now }
     {
-        for row in &self.rows {
-            if row.blocks(vote) {
+        for place in self.members as usize..self.rows.len() {
+            if self.has_blocking(place, vote) {
                 return true;
             }
         }

@@ -29,8 +29,8 @@ pub fn attestation_of<S: Scheme<D>, D: Digest>(vote: &Vote<S, D>) -> Attestation
     }
 }
 
-/// Whether the other, an accepted vote, stands in the way of the vote: of its signer, and of its kind or, of nullify and finalize, of
-/// either.
+/// Whether the other, an accepted vote, stands in the way of the vote: of its signer, and of its kind or, of nullify and
+/// finalize, of either.
 pub(crate) fn is_in_way<S: Scheme<D>, D: Digest>(vote: &Vote<S, D>, other: &Vote<S, D>) -> bool
     ensures { result ≡ is_in_way vote.now other.now }
 {

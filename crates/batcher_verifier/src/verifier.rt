@@ -182,9 +182,9 @@ impl<S: Scheme<D>, D: Digest> Verifier<S, D> {
         }
     }
 
-    /// Adds a vote, one that is known to attest or one that waits to be judged, where it may be added: whether it did. It may
-    /// where it is of the round, and no vote of its signer waits or is known to attest that stands in its way: of its kind or, of
-    /// nullify and finalize, of either. Else, and after an `Err`, nothing is changed.
+    /// Adds a vote, one that is known to attest or one that waits to be judged: whether it was added. It is exactly where
+    /// it is of the round, and no vote of its signer waits or is known to attest that stands in its way: of its kind or,
+    /// of nullify and finalize, of either. Else, and after an `Err`, nothing is changed.
     pub fn add(&mut self, vote: Vote<S, D>, verified: bool) -> Result<bool, AllocError>
         ensures added { IfOk result (λ added.
             AtEachOf D.PartialEq.eq S.Scheme S.batchable self.old (λ s h. IsTrue added ↔ MayBeAdded D.PartialEq.eq s h vote)) }
@@ -199,9 +199,7 @@ impl<S: Scheme<D>, D: Digest> Verifier<S, D> {
             → verified ≡ true
             → VoteAttests S.attests s vote
             → VerifierKeeps D.PartialEq.eq S.Scheme S.batchable s self.new (Cast vote ∷ h))) }
-        ensures refused { IfOk result (λ added.
-            AtEachOf D.PartialEq.eq S.Scheme S.batchable self.old
-            (λ s h. added ≡ false → VerifierKeeps D.PartialEq.eq S.Scheme S.batchable s self.new h)) }
+        ensures refused { IfOk result (λ added. added ≡ false → self.new ≡ self.old) }
         ensures err { OnErr result
             (AtEachOf D.PartialEq.eq S.Scheme S.batchable self.old (λ s h. VerifierKeeps D.PartialEq.eq S.Scheme S.batchable s self.new h)) }
     {

