@@ -22,8 +22,8 @@ use batcher_admission::{Admission, are_against, copied, refusal, report};
 use batcher_assembly::in_turn;
 use batcher_verifier::{
     Batch, BatcherFault, Kind, Verifier, batches_rest_on_accepted_votes, constructions_end,
-    forwarding_changes_no_votes, kind_of, kind_of_certificate, no_quorum_is_lost,
-    round_of, what_is_due_has_no_certificate, what_is_new_may_be_added,
+    forwarding_changes_no_votes, kind_of, kind_of_certificate, no_quorum_is_lost, round_of,
+    what_is_due_has_no_certificate, what_is_new_may_be_added,
 };
 use simplex_messages::{Activity, Certificate, Vote};
 use std::alloc::{AllocError, Global};
