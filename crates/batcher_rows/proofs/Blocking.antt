@@ -91,10 +91,10 @@ module _ {S D P G C : Type 0} where
         go false is = is
         go true is =
             let found = counted-cell sure kind (cell (is_kind Notarization kind) row) u e in
-            let mine = and_parts (is_marked sure found.0.mark) (is_kind kind (vote_kind found.0.vote)) found.2.0 in
-            let side : is_kind Notarization kind ≡ is_kind Notarization (vote_kind v) = side-same kind (vote_kind found.0.vote) mine.1 ∙ ap (λ (w : Vote S D P G C). is_kind Notarization (vote_kind w)) found.2.1 ∙ of-its-side v u is in
+            let mine = and_parts (is_marked sure found.0.mark) (is_kind kind (vote_kind found.0.vote)) found.2 in
+            let side : is_kind Notarization kind ≡ is_kind Notarization (vote_kind v) = side-same kind (vote_kind found.0.vote) mine.1 ∙ ap (λ (w : Vote S D P G C). is_kind Notarization (vote_kind w)) found.3 ∙ of-its-side v u is in
             let at : cell (is_kind Notarization (vote_kind v)) row ≡ Some found.0 = ap (λ (b : Bool). cell b row) (sym side) ∙ found.1 in
-            let blocked : blocks v row ≡ true = rw (at, counts sure found.0.mark mine.0, found.2.1, is) refl in
+            let blocked : blocks v row ≡ true = rw (at, counts sure found.0.mark mine.0, found.3, is) refl in
             absurd (cc (free, blocked))
 
     -- a row that blocks the vote has one that counts and stands in its way
@@ -112,14 +112,11 @@ module _ {S D P G C : Type 0} where
     -- where no row blocks the vote, nothing is found in its way
     none-found : (sure : Bool) (kind : Kind) (rows : List (Row S D P G C)) → ((i : ℕ) → blocks_at v (slice_get rows i) ≡ false) → find (is_in_way v) (votes_in sure kind rows) ≡ None
     none-found sure kind [] free = refl
-    none-found sure kind (row ∷ rows) free = go (vote_in sure kind row) refl
+    none-found sure kind (row ∷ rows) free = go (vote_in sure kind row) refl (none-found sure kind rows (λ i. free (suc i)))
       where
-        rest : find (is_in_way v) (votes_in sure kind rows) ≡ None
-        rest = none-found sure kind rows (λ i. free (suc i))
-
-        go : (o : Option (Vote S D P G C)) → vote_in sure kind row ≡ o → find (is_in_way v) (cons_option o (votes_in sure kind rows)) ≡ None
-        go None e = rest
-        go (Some u) e = rw (row-free sure kind row u (free zero) e) rest
+        go : (o : Option (Vote S D P G C)) → vote_in sure kind row ≡ o → find (is_in_way v) (votes_in sure kind rows) ≡ None → find (is_in_way v) (cons_option o (votes_in sure kind rows)) ≡ None
+        go None e rest = rest
+        go (Some u) e rest = rw (row-free sure kind row u (free zero) e) rest
 
     -- and the other way round
     found-none : (sure : Bool) (kind : Kind) (rows : List (Row S D P G C)) (i : ℕ) (row : Row S D P G C) (u : Vote S D P G C) → find (is_in_way v) (votes_in sure kind rows) ≡ None
@@ -153,8 +150,8 @@ module _ {S D P G C : Type 0} where
             deeper false is = is
             deeper true is =
                 let found = row-blocked row is in
-                let free : is_in_way v found.2.0 ≡ false = found-none found.0 found.1 rows i row found.2.0 (none found.0 found.1) at found.2.1.0 in
-                absurd (cc (free, found.2.1.1))
+                let free : is_in_way v found.2 ≡ false = found-none found.0 found.1 rows i row found.2 (none found.0 found.1) at found.3 in
+                absurd (cc (free, found.4))
 
     -- no row blocks the vote exactly where nothing that counts stands in its way
     pub rows-free : (rows : Rows S D P G C) → ((i : ℕ) → blocks_at v (slice_get rows.rows.items i) ≡ false) → NoneInWay rows v
@@ -182,7 +179,7 @@ module _ {S D P G C : Type 0} where
                 deeper false way = rw (at, is) (never (not (is_aside x.mark)) (is_in_way v x.vote) way)
 
     module _ (rows : Rows S D P G C) (members : ℕ) (votes : List (Vote S D P G C)) (k : AreNewest rows members votes) where
-      side : Bool
+      abbrev side : Bool
       side = is_kind Notarization (vote_kind v)
 
       newest : (i : ℕ) (row : Row S D P G C) (x : Held S D P G C) → slice_get rows.rows.items i ≡ Some row → cell side row ≡ Some x → newest_of side rows i ≡ Some x.vote

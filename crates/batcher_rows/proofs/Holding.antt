@@ -344,13 +344,6 @@ module _ {S D P G C : Type 0} (members : ℕ) (votes : List (Vote S D P G C)) (v
     strangers = λ side i u m e. far (is_aside (mark_of counts own)) side i u m (rw is at e);
   }
     where
-      far : (b : Bool) (side : Bool) (i : ℕ) (u : Vote S D P G C) → members ≤ i → vote_at side (if b then mid.rows.items else mid.rows.items ++ lone (as-held v counts own) ∷ []) i ≡ Some u → members ≤ vote_signer u
-      far true side i u m e = k.strangers side i u m e
-      far false side i u m e = elim (vote-last side mid.rows.items (lone (as-held v counts own)) i u e) [
-        | inl before ↦ k.strangers side i u m before
-        | inr mine ↦ let one : u ≡ v = lone-vote side mine in rw one stranger
-      ]
-
       lone-vote : (side : Bool) {u : Vote S D P G C} → option_map (λ (x : Held S D P G C). x.vote) (cell side (lone (as-held v counts own))) ≡ Some u → u ≡ v
       lone-vote side e = which (is_kind Notarization (vote_kind v)) side e
         where
@@ -359,6 +352,13 @@ module _ {S D P G C : Type 0} (members : ℕ) (votes : List (Vote S D P G C)) (v
           which false false e = cc e
           which true false e = absurd (cc e)
           which false true e = absurd (cc e)
+
+      far : (b : Bool) (side : Bool) (i : ℕ) (u : Vote S D P G C) → members ≤ i → vote_at side (if b then mid.rows.items else mid.rows.items ++ lone (as-held v counts own) ∷ []) i ≡ Some u → members ≤ vote_signer u
+      far true side i u m e = k.strangers side i u m e
+      far false side i u m e = elim (vote-last side mid.rows.items (lone (as-held v counts own)) i u e) [
+        | inl before ↦ k.strangers side i u m before
+        | inr mine ↦ let one : u ≡ v = lone-vote side mine in rw one stranger
+      ]
 
       go : (b : Bool) (side : Bool) (i : ℕ) → i < members → vote_at side (if b then mid.rows.items else mid.rows.items ++ lone (as-held v counts own) ∷ []) i ≡ vote_at side mid.rows.items i
       go true side i m = refl

@@ -58,7 +58,7 @@ module _ {X : Type 0} where
   empty-permutation (y ∷ ys) h = absurd (omega (arith, length_permutation [] (y ∷ ys) h))
 
 module _ {X : Type 0} (p : X → Bool) where
-  FoundInNeither : List X → List X → Type 0
+  abbrev FoundInNeither : List X → List X → Type 0
   FoundInNeither xs ys = find p xs ≡ None → find p ys ≡ None
 
   behind : (x : X) (xs ys : List X) → FoundInNeither xs ys → FoundInNeither (x ∷ xs) (x ∷ ys)

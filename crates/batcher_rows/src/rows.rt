@@ -1,6 +1,6 @@
 //! The votes of one round, in a row for each signer.
 
-ghost use Rattle.std.specs.Prelude.{◌≡◌, ◌↔◌, ◌++◌, ◌||◌, IsTrue, All, ◌≤◌, ◌<◌, ◌+◌, ◌∷◌, ◌&&◌, [], ℕ, List, Bool, Option, Some, None, MatchOption, filter, find, map, not, length, is_none, option_map, IfOk, OnOk, OnErr, slice_index_or, slice_set, if◌then◌else◌, true, false};
+ghost use Rattle.std.specs.Prelude.{◌≡◌, ◌↔◌, ◌++◌, ◌||◌, IsTrue, All, ◌≤◌, ◌<◌, ◌+◌, ◌∷◌, ◌&&◌, [], ℕ, List, Bool, Option, Some, None, MatchOption, filter, find, map, not, length, is_none, option_map, IfOk, OnOk, OnErr, slice_get, slice_index_or, slice_set, if◌then◌else◌, true, false};
 ghost use Rattle.std.specs.List.Sorted.{IsStrictlyIncreasing};
 ghost use Rattle.std.specs.Option.{option_copied};
 ghost use Rattle.types_terms.specs.declared.kind.Kind.{Kind};

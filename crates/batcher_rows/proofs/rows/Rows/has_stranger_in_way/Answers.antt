@@ -11,4 +11,4 @@ pub returns-then-has_blocking : goal.returns-then-has_blocking
 returns-then-has_blocking g c = (λ no. absurd (cc no), λ free. absurd (cc (free c.loop-place.place c.loop-place.auto.place, sym c.has_blocking.ensures ∙ c.if-has_blocking.true)))
 
 pub returns : goal.returns
-returns g c = (λ no. all-walked c.args.vote.now c.args.self.now.rows.items c.args.self.now.members c.loop-place.place (omega (arith, c.len.ensures, c.loop-place-test.false)) c.loop-place.invariant, λ free. refl)
+returns g c = (λ no. all-walked c.args.vote.now c.args.self.now.rows.items c.args.self.now.members c.loop-place.place (omega (arith, c.len-place-end.ensures, c.loop-place-test.false)) c.loop-place.invariant, λ free. refl)
