@@ -43,6 +43,11 @@ module _ {S D P G C : Type 0} (same : D → D → Bool) (attests : S → ℕ →
   may-add true allowed = allowed.0
   may-add false allowed = allowed
 
+-- what isn't is false
+pub not-true : (b : Bool) → not b ≡ true → b ≡ false
+not-true false e = refl
+not-true true e = absurd (cc e)
+
 module _ {S D P G C : Type 0} (same : D → D → Bool) (s : Setup S) (h : History S D P G C) (rows : Rows S D P G C) (k : RowsKeep same s rows h) (v : Vote S D P G C) where
   -- a vote of the round that no row stands in the way of may be added
   pub none-added : vote_round v ≡ s.round → NoneInWay rows v → MayBeAdded same s h v

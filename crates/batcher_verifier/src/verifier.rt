@@ -8,7 +8,7 @@ ghost use Rattle.messages_certificates.specs.Certificate.{certificate_round};
 ghost use Rattle.batcher_verifier.specs.Votes.{is_of, vote_kind, fixed_proposal};
 ghost use Rattle.batcher_verifier.specs.History.{accepted, recorded, Taken, Cast, Certified, Led, History, Setup, select, proposal_of, selected, selection, leader_of, led, notarized_by, context, waiting, verified, is_candidate, is_complete, is_ready, is_due, next_kind};
 ghost use Rattle.batcher_verifier.specs.Lawful.{MayBeAdded, MayHappen, VoteAttests};
-ghost use Rattle.simplex_messages.specs.VoteParts.{vote_signer};
+ghost use Rattle.simplex_messages.specs.VoteParts.{vote_round, vote_signer};
 ghost use Rattle.batcher_rows.specs.Rows.{tally_at};
 ghost use Rattle.batcher_verifier.specs.Keeping.{VerifierKeeps, AtEachOf, selection_of, IsChosen, held_by, led_by};
 
@@ -214,7 +214,17 @@ impl<S: Scheme<D>, D: Digest> Verifier<S, D> {
     fn may_add(&self, vote: &Vote<S, D>) -> bool
         ensures { AtEachOf D.PartialEq.eq S.Scheme S.batchable self.now (λ s h. IsTrue result ↔ MayBeAdded D.PartialEq.eq s h vote.now) }
     {
-        round_of(vote) == self.round && !self.rows.has_in_way(vote)
+        if !self.is_ours(vote) {
+            return false;
+        }
+        !self.rows.has_in_way(vote)
+    }
+
+    /// Whether the vote is of the round.
+    fn is_ours(&self, vote: &Vote<S, D>) -> bool
+        ensures { AtEachOf D.PartialEq.eq S.Scheme S.batchable self.now (λ s h. IsTrue result ↔ (vote_round vote.now ≡ s.round)) }
+    {
+        round_of(vote) == self.round()
     }
 
     /// Adds a vote that may be added.
