@@ -182,7 +182,7 @@ impl<S: Scheme<D>, D: Digest> Round<S, D> {
             (AtEach D.PartialEq.eq S.Scheme S.batchable self.old (λ s h. RoundKeeps D.PartialEq.eq S.Scheme S.batchable s self.new h)) }
     {
         what_is_new_may_be_added::<S, D>();
-        let _added = self.verifier.add(copied(vote), own)?;
+        let _ = self.verifier.add(copied(vote), own)?;
         Ok(())
     }
 
