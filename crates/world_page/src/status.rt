@@ -1,0 +1,53 @@
+//! What a call answers, as a number.
+
+ghost use Rattle.std.specs.Prelude.{◌≡◌, ◌≢◌};
+ghost use Rattle.world_page.specs.Statuses.{status_number};
+ghost use Rattle.world_page.specs.declared.status.Status.TheVariants.{Argument, Done};
+
+use world_network::Broken;
+
+/// How a call ended.
+#[derive(Drop)]
+pub(crate) enum Status {
+    /// It did what was asked.
+    Done,
+    /// Memory ran out.
+    Memory,
+    /// An argument is none that can be answered.
+    Argument,
+    /// The caller's buffer has no room for the answer.
+    Room,
+    /// Reading or writing failed, which no buffer in memory brings about.
+    Device,
+    /// A member isn't of its committee, which no scenario brings about.
+    Setup,
+}
+
+impl Status {
+    /// Its number, as the page has it.
+    #[tactic(auto, unfolding(crate::specs::Statuses::status_number))]
+    pub(crate) fn number(self) -> u32
+        ensures { result ≡ status_number self }
+    {
+        match self {
+            Status::Done => 0,
+            Status::Memory => 1,
+            Status::Argument => 2,
+            Status::Room => 3,
+            Status::Device => 4,
+            Status::Setup => 5,
+        }
+    }
+}
+
+/// The status of what broke off.
+pub(crate) fn broken_off(broken: Broken) -> Status
+    ensures done { result ≢ Done }
+    ensures argument { result ≢ Argument }
+{
+    match broken {
+        Broken::Memory => Status::Memory,
+        Broken::Device => Status::Device,
+        Broken::Setup => Status::Setup,
+    }
+}
