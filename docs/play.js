@@ -171,9 +171,10 @@ async function step() {
   show();
 }
 
-/** Ends the run where the worker has come to. */
+/** Ends the run where the worker has come to, which may be ahead of the picture, and goes there. */
 async function stop() {
-  if (!play.run || play.isDone) return;
+  if (!play.run) return;
+  if (play.isDone) return seek(IS.finish);
   const epoch = play.epoch;
   const answer = await play.engine.ask("stop");
   if (epoch !== play.epoch) return;

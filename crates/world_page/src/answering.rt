@@ -4,7 +4,7 @@ ghost use Rattle.std.specs.Prelude.{◌≡◌, ◌≢◌, ◌<◌, ◌⊎◌, �
 ghost use Rattle.cli_tool.specs.ToolAnswers.{IsChecked};
 ghost use Rattle.cli_tool.specs.declared.style.Style.TheVariants.{Plain};
 ghost use Rattle.world_page.specs.Statuses.{Names};
-ghost use Rattle.world_page.specs.declared.status.Status.TheVariants.{Argument, Done, Memory, Room};
+ghost use Rattle.world_page.specs.declared.status.Status.TheVariants.{Device, Done, Memory, Room};
 
 use crate::found::Found;
 use crate::room::put;
@@ -47,7 +47,7 @@ pub(crate) fn audited(
     found: &mut Found,
 ) -> Status
     requires { 0 < members }
-    ensures argument { result ≢ Argument }
+    ensures answers { (result ≡ Done) ⊎ ((result ≡ Memory) ⊎ ((result ≡ Room) ⊎ (result ≡ Device))) }
     ensures unwritten { result ≢ Done → room.new ≡ room.old }
 {
     let mut text = Vec::new(alloc);

@@ -21,11 +21,10 @@ ghost use Rattle.world_page.specs.Statuses.{Names};
 use crate::answering::{audited, looked_at};
 use crate::serving::{closed, gone_on, lines_taken, opened, stopped};
 use crate::status::Status;
-use std::alloc::Global;
-
 pub use found::Found;
 pub use handle::Handle;
 pub use place::Place;
+use std::alloc::Global;
 
 /// Opens the scenarios of a text, as `simplex_world` reads them; none is begun. Lines come as JSON, unless `json` is 0 or the text says
 /// otherwise.

@@ -7,8 +7,9 @@ use crate::found::Found;
 use crate::handle::Handle;
 use crate::room::put;
 use crate::session::Session;
-use crate::status::{Status, broken_off};
+use crate::status::Status;
 use std::alloc::Global;
+use world_network::Broken;
 
 /// Opens the scenarios of a text.
 pub(crate) fn opened(
@@ -28,7 +29,19 @@ pub(crate) fn opened(
             *page = Handle::of(session);
             Status::Done
         }
-        Err(broken) => broken_off(broken),
+        Err(broken) => failed(broken),
+    }
+}
+
+/// The status of what is broken off.
+fn failed(broken: Broken) -> Status
+    ensures done { result ≢ Done }
+    ensures argument { result ≢ Argument }
+{
+    match broken {
+        Broken::Memory => Status::Memory,
+        Broken::Device => Status::Device,
+        Broken::Setup => Status::Setup,
     }
 }
 
@@ -55,7 +68,7 @@ pub(crate) fn gone_on(alloc: Global, page: &mut Handle, events: u32, found: &mut
         }
         Err(broken) => {
             found.tell(waiting, None);
-            broken_off(broken)
+            failed(broken)
         }
     }
 }
@@ -74,7 +87,7 @@ pub(crate) fn stopped(alloc: Global, page: &mut Handle, found: &mut Found) -> St
     found.tell(waiting, None);
     match ended {
         Ok(()) => Status::Done,
-        Err(broken) => broken_off(broken),
+        Err(broken) => failed(broken),
     }
 }
 

@@ -1,10 +1,7 @@
 //! What a call answers, as a number.
 
-ghost use Rattle.std.specs.Prelude.{◌≡◌, ◌≢◌};
+ghost use Rattle.std.specs.Prelude.{◌≡◌};
 ghost use Rattle.world_page.specs.Statuses.{status_number};
-ghost use Rattle.world_page.specs.declared.status.Status.TheVariants.{Argument, Done};
-
-use world_network::Broken;
 
 /// How a call ended.
 #[derive(Drop)]
@@ -37,17 +34,5 @@ impl Status {
             Status::Device => 4,
             Status::Setup => 5,
         }
-    }
-}
-
-/// The status of what broke off.
-pub(crate) fn broken_off(broken: Broken) -> Status
-    ensures done { result ≢ Done }
-    ensures argument { result ≢ Argument }
-{
-    match broken {
-        Broken::Memory => Status::Memory,
-        Broken::Device => Status::Device,
-        Broken::Setup => Status::Setup,
     }
 }

@@ -9,7 +9,7 @@ use world_members::{Seat, config_of};
 use world_network::{Broken, Detail, Refusal, Scenario, Teller};
 
 /// The status where a line was refused.
-const REFUSED: u8 = 2;
+pub(crate) const REFUSED: u8 = 2;
 
 /// Runs the scenarios of the input, with nodes on seats of this kind, writes their lines to the output, and gives the status to end
 /// with: the greatest of the runs, 2 where a line was refused, 3 where memory ran out, 4 where reading or writing failed.

@@ -1,15 +1,12 @@
 //! Scenarios of a text, gone on with event by event: for who looks on while they are played.
 
-use crate::playing::{Script, Taken};
+use crate::playing::{REFUSED, Script, Taken};
 use crate::world::World;
 use std::alloc::Global;
-use std::io::{BufRead, BufReader, Write};
+use std::io::{BufRead, Write};
 use test_words::Committee;
 use world_members::Seat;
 use world_network::{Broken, Scenario};
-
-/// The status where a line was refused.
-const REFUSED: u8 = 2;
 
 /// The scenarios of a text, one behind the other. What they write, `play` writes over the same text; it ends a run behind 10^9 events.
 #[derive(Drop)]
@@ -46,7 +43,7 @@ impl<S: Committee, M: Seat<S>> Stage<S, M> {
     /// Reads the text, up to a line that is refused.
     fn read(&mut self, is_json: bool, text: &[u8]) -> Result<(), Broken> {
         let mut script = Script::new(self.alloc, is_json);
-        for line in BufReader::new(self.alloc, text)?.lines(self.alloc) {
+        for line in text.lines(self.alloc) {
             let taken = match line {
                 Ok(line) => script.take(&line, &mut self.refusal)?,
                 Err(error) => script.miss(&error, &mut self.refusal)?,
@@ -137,7 +134,7 @@ impl<S: Committee, M: Seat<S>> Stage<S, M> {
             return Ok(false);
         };
         let mut world: World<S, M> = World::new(self.alloc, scenario)?;
-        world.begin()?;
+        world.start()?;
         world.chronicle.write_all(output)?;
         self.world = Some(world);
         Ok(true)

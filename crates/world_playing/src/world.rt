@@ -74,7 +74,7 @@ impl<S: Committee, M: Seat<S>> World<S, M> {
 
     /// Runs to the end, and gives the status to end with.
     pub(crate) fn run<W: Write>(&mut self, output: &mut W) -> Result<u8, Broken> {
-        self.begin()?;
+        self.start()?;
         for _ in 0..MOST_EVENTS {
             if !self.goes_on()? {
                 break;
@@ -85,7 +85,7 @@ impl<S: Committee, M: Seat<S>> World<S, M> {
     }
 
     /// Comes to its first moment: each member is opened.
-    pub(crate) fn begin(&mut self) -> Result<(), Broken> {
+    pub(crate) fn start(&mut self) -> Result<(), Broken> {
         self.chronicle.tell_begin(&self.scenario)?;
         self.open_all()
     }
