@@ -42,6 +42,11 @@ def kit() -> Path:
     return Path(found).resolve().parent.parent
 
 
+def can_build() -> bool:
+    """Whether this kit has what a module is made with."""
+    return (kit() / "toolchain/bin/clang").exists()
+
+
 def proved_text(room: Path) -> Path:
     """Has rattle prove the library and build it, and keeps the text that clang is given."""
     chain, kept = room / "toolchain", room / "given"
