@@ -22,6 +22,7 @@ function begin() {
   if (typeof PAGE_MODULE === "undefined") return refuse("The module of the nodes isn't beside this page: ./voumlis build makes it.");
   if (!has64BitMemory()) return refuse("This browser has no 64-bit WebAssembly memory. Chromium, Chrome and Edge have it from 133 on, Firefox from 134.");
   at("built").textContent = `${PAGE_MODULE.proved ? "proved" : "UNPROVED"}, commit ${PAGE_MODULE.commit}, ${PAGE_MODULE.kit}`;
+  at("whose").textContent = PAGE_MODULE.proved ? "The nodes that run are the library's own, proved, and compiled for this page." : "The nodes that run are the library's own, but nothing of this build was proved.";
   at("built").title = `sha256 ${PAGE_MODULE.sha256}, ${PAGE_MODULE.bytes} bytes`;
   restart();
   return true;

@@ -37,9 +37,8 @@ function told(event, { world, ways }, led) {
     case "lied": return [`${who} lies: it ${LIES[kind] ?? kind}${view === undefined ? "" : `, in view ${view}`}.`, `Up to ${world.faults} of ${world.members} may. What it signs twice is evidence, wherever the two votes meet.`];
     case "blocked": return [`${who} blocks member ${event.other}.`, "It sent what can't be read, bears another's name, contradicts its own vote or doesn't certify."];
     case "contradicts": return [`CONTRADICTION: at member ${member} payload ${payload} of view ${view} is final, on no one chain with what others have.`, `That needs more than ${world.faults} liars, and each of at least ${world.faults + 1} signed two votes that contradict each other: the audit names them.`];
-    default: return event.event === "saw" || event.event === "certified" || event.event === "voted"
-      ? [`${who} has two votes of one member that contradict each other (${kind ?? "evidence"}${view === undefined ? "" : `, view ${view}`}).`, "No rule allows both: whoever signed both lied. It is kept as evidence."]
-      : [`${who}: ${event.event}${kind ? ` ${kind}` : ""}.`, ""];
+    case "saw evidence": return [`${who} holds two votes of one member in view ${view} that contradict each other.`, "No rule allows both: whoever signed both lied. Such a report is what an audit goes by."];
+    default: return [`${who}: ${event.event}${kind ? ` ${kind}` : ""}.`, ""];
   }
 }
 
