@@ -17,7 +17,7 @@ const LED = {
 /** What happened and why, as [what, why]. `led` is the name of the member's mark before. */
 function told(event, { world, ways }, led) {
   const { member, view, payload, parent, kind } = event, quorum = world.members - world.faults, who = `Member ${member}`;
-  const votes = `${quorum} of ${world.members} members`;
+  const votes = `${quorum} of ${world.members} members`, liars = Object.keys(ways).length, shared = 2 * quorum - world.members;
   switch (kind === undefined || event.event === "lied" ? event.event : `${event.event} ${kind}`) {
     case "opened": return event.life > 1
       ? [`${who} is up again, in view ${view}.`, "It went through what its disk kept. Votes and certificates stand on the disk before they are sent, so it contradicts nothing that it said before the crash."]
@@ -28,10 +28,11 @@ function told(event, { world, ways }, led) {
     case "voted nullify": return [`${who} gives view ${view} up.`, "It waited until a deadline: for a proposal, for a good verdict, or for the term; or it learned a reason not to. It will not finalize this view any more."];
     case "voted finalize": return [`${who} votes to finalize payload ${payload} in view ${view}.`, "There is a notarization, and the verdict on it is good. A member votes at most one of nullify and finalize in a view."];
     case "certified notarization": return [`${who} has a notarization of payload ${payload} in view ${view}.`, `${votes}, a quorum, voted to notarize it. Now the application is asked whether it may stand.`];
-    case "certified nullification": return [`${who} has a nullification of view ${view}.`, `${votes}, a quorum, gave it up: so no quorum can finalize it, and the next leader may skip it.`];
+    case "certified nullification": return [`${who} has a nullification of view ${view}.`, `${votes}, a quorum, gave it up, and with it the rest of its term: a leader may skip it.`];
     case "certified finalization": return [`${who} has a finalization of payload ${payload} in view ${view}.`, `${votes}, a quorum, voted to finalize it.`];
     case "judged": return [`${who}'s application says yes to payload ${payload} of view ${view}.`, "The verdict is recorded. Only behind it the member may vote to finalize, and it goes on to the next view."];
-    case "finalized": return [`At member ${member} payload ${payload} of view ${view} is final.`, `It, or what was built on it, was finalized by a quorum. Two quorums share at least ${Math.max(world.members - 2 * world.faults, 0)} members, more than the ${world.faults} that may lie: so another chain can't be final too.`];
+    case "finalized": return [`At member ${member} payload ${payload} of view ${view} is final.`, `It, or what was built on it, was finalized by a quorum. Two quorums share at least ${shared} members${liars > world.faults
+      ? `; ${liars} lie here, more than the ${world.faults} that may, so another chain can be final too.` : `, more than the ${world.faults} that may lie: so another chain can't be final too.`}`];
     case "crashed": return [`${who} crashes inside a call of its disk; ${event.bytes} bytes are left there.`, "Of the write some bytes stand, of what wasn't synced a part. Nothing that rests on the lost part was handed out."];
     case "lost": return [`${who}'s record isn't opened again.`, "This never comes where the disk kept what disks keep: it would be a broken promise."];
     case "lied": return [`${who} lies: it ${LIES[kind] ?? kind}${view === undefined ? "" : `, in view ${view}`}.`, `Up to ${world.faults} of ${world.members} may. What it signs twice is evidence, wherever the two votes meet.`];
