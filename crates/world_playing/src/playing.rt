@@ -41,20 +41,32 @@ fn play_lines<S: Committee, M: Seat<S>, R: Read + Drop, W: Write>(
             Ok(line) => script.take(&line, output)?,
             Err(error) => script.miss(&error, output)?,
         };
-        match taken {
-            Taken::Line => {}
-            Taken::Scenario(scenario) => {
-                status = run_world::<S, M, W>(alloc, scenario, output)?.max(status);
-            }
-            Taken::Refused => return Ok(REFUSED),
+        match play_taken::<S, M, W>(alloc, taken, status, output)? {
+            Some(greatest) => status = greatest,
+            None => return Ok(REFUSED),
         }
     }
-    match script.end(output)? {
-        Taken::Line => Ok(status),
+    let taken = script.end(output)?;
+    match play_taken::<S, M, W>(alloc, taken, status, output)? {
+        Some(greatest) => Ok(greatest),
+        None => Ok(REFUSED),
+    }
+}
+
+/// Runs a scenario that is whole. The greatest status so far, or none where a line is refused.
+fn play_taken<S: Committee, M: Seat<S>, W: Write>(
+    alloc: Global,
+    taken: Taken,
+    status: u8,
+    output: &mut W,
+) -> Result<Option<u8>, Broken> {
+    match taken {
+        Taken::Line => Ok(Some(status)),
         Taken::Scenario(scenario) => {
-            Ok(run_world::<S, M, W>(alloc, scenario, output)?.max(status))
+            let ended = run_world::<S, M, W>(alloc, scenario, output)?;
+            Ok(Some(ended.max(status)))
         }
-        Taken::Refused => Ok(REFUSED),
+        Taken::Refused => Ok(None),
     }
 }
 
