@@ -1,5 +1,5 @@
-/* The heap of the page's module, behind std's `Global`: what a C library is on other machines. A block has its size before it, and what
-   is given back waits in the list of its size. Nothing here is proved. */
+/* What the page's module has in place of a C library: the heap behind std's `Global`, and a product of 128 bits, which clang asks for.
+   A block has its size before it, and what is given back waits in the list of its size. Nothing here is proved. */
 typedef unsigned long size;
 typedef unsigned char byte;
 
@@ -19,6 +19,8 @@ enum { HEAD = 16, PAGE = 65536, STEP = 16, SMALL = 1024, EXACT = SMALL / STEP + 
 extern byte __heap_base;
 static byte *front, *end;
 static Block *lists[LISTS];
+/* What is pointed to where there is no memory. */
+static byte nothing;
 
 /* The list of blocks with at least so much room, and how much that is: steps of 16 bytes up to 1,024, then of an eighth of a power of
    two or less. */
@@ -51,7 +53,7 @@ static byte *taken(size bytes) {
 }
 
 Tried rattle_alloc(size wanted, size align) {
-  Tried none = {0, 0}, done = {1, 0};
+  Tried none = {0, &nothing}, done = {1, 0};
   (void)align; /* divides 16 */
   if (wanted > 1ul << 40)
     return none;
@@ -99,4 +101,14 @@ byte *voumlis_page_room(size bytes) {
 void voumlis_page_free(byte *p) {
   if (p)
     rattle_dealloc(p);
+}
+
+/* The low 128 bits of a product; in clang's form, the parts of 64 bits. */
+typedef unsigned __int128 wide;
+
+wide __multi3(wide one, wide other) {
+  size a = (size)one, b = (size)other, a0 = a & 0xffffffff, a1 = a >> 32, b0 = b & 0xffffffff, b1 = b >> 32;
+  size low = a0 * b0, middle = a1 * b0 + (low >> 32), second = a0 * b1 + (middle & 0xffffffff);
+  size high = a1 * b1 + (middle >> 32) + (second >> 32) + (size)(one >> 64) * b + a * (size)(other >> 64);
+  return (wide)high << 64 | (second << 32 | (low & 0xffffffff));
 }
