@@ -1,6 +1,1 @@
 pub mod Answers
-pub mod HostedDisk
-pub mod Place
-pub mod Requests
-pub mod Serving
-pub mod Statuses

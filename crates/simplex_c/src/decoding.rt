@@ -3,11 +3,10 @@
 ghost use Rattle.std.specs.Prelude.{◌≡◌, IfNone, IfSome};
 ghost use Rattle.cli_tool.specs.Decoding.{message_size};
 ghost use Rattle.simplex_c.specs.Answers.{Tells, kind_at, refusal_number};
-ghost use Rattle.simplex_c.specs.Statuses.{status_number};
-ghost use Rattle.simplex_c.specs.declared.status.Status.TheVariants.{Argument};
+ghost use Rattle.cli_hosted.specs.Statuses.{status_number};
+ghost use Rattle.cli_hosted.specs.declared.status.Status.TheVariants.{Argument};
 
-use crate::found::Found;
-use crate::status::Status;
+use cli_hosted::{Found, Status};
 use cli_tool::{Kind, message_size};
 use std::alloc::Global;
 use types_core::CodecError;

@@ -4,25 +4,13 @@
 #![tactic(auto)]
 
 mod decoding;
-mod disk;
-mod found;
-mod handle;
-mod loose;
 mod node;
-mod place;
 mod questions;
-mod requests;
-mod room;
-mod serving;
-mod session;
-mod status;
 mod told_answers;
 
-pub use found::Found;
-pub use handle::Handle;
+pub use cli_hosted::{Found, Handle, Place};
 pub use node::{
     voumlis_proved_node_close, voumlis_proved_node_open, voumlis_proved_node_replies,
     voumlis_proved_node_requests, voumlis_proved_node_step,
 };
-pub use place::Place;
 pub use questions::{voumlis_proved_audit, voumlis_proved_decode, voumlis_proved_first_refused};

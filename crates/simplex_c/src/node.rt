@@ -2,12 +2,11 @@
 
 ghost use Rattle.std.specs.Prelude.{◌≡◌, ◌≢◌, ◌⊎◌, ◌≤◌};
 ghost use Rattle.journal_look.specs.Look.{BeginsLikeOne};
-ghost use Rattle.simplex_c.specs.Serving.{IsLookedAt, IsTornAt, asks};
+ghost use Rattle.cli_hosted.specs.Serving.{IsLookedAt, IsTornAt, asks};
 
-use crate::found::Found;
-use crate::handle::Handle;
-use crate::serving::{closed, opened, replies_taken, requests_taken, stepped};
-use crate::status::Status;
+use cli_hosted::{
+    Found, Handle, Status, closed, opened, replies_taken, requests_taken, stepped,
+};
 use std::alloc::Global;
 
 /// Opens a member's node at moment 0 over its record's bytes, which the host keeps; what that hands out waits as the first reply.

@@ -1,0 +1,5 @@
+pub mod HostedDisk
+pub mod Place
+pub mod Requests
+pub mod Serving
+pub mod Statuses
