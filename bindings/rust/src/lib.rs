@@ -2,15 +2,17 @@
 //!
 //! Safe Rust over the static library `simplex_c`. Its functions ask nothing of numbers and bytes, each slice is passed with its own
 //! length, and a node's handle is written by the library alone, so no call from safe code is undefined. Trusted, beside the proofs:
-//! the declarations below and of the module `handle`, which nothing compares with the library's, and the heap of the module `heap`.
+//! the declarations of foreign functions here, which nothing compares with the library's, and the heap of the module `heap`.
 
 mod handle;
 mod heap;
 mod node;
+mod settings;
 pub mod wire;
 
 use handle::Handle;
-pub use node::{Ending, Node};
+pub use node::{Ending, Node, Views};
+pub use settings::{Forwarding, Settings, SettingsError, SettingsFault, Skips};
 
 /// What a call tells beside its status.
 #[repr(C)]

@@ -1,4 +1,5 @@
 pub mod HostedDisk
+pub mod Members
 pub mod Place
 pub mod Requests
 pub mod Serving

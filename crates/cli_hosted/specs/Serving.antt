@@ -1,6 +1,9 @@
 -- How a node's opening and its calls are told.
-use Rattle.std.specs.Prelude.{◌⊎◌, nat_eq, not, ℕ, Bool, List, Option, None, Some, Result, Ok, Err}
-use Rattle.cli_opening.specs.Looking.{IsBarred, IsFoundIn}
+use Rattle.std.specs.Prelude.{◌⊎◌, nat_eq, not, ℕ, Bool, List, Option, None, Some, Result, Ok, Err, codes}
+use Rattle.simplex_record.specs.declared.owner.Owner.{Owner}
+use Rattle.cli_tool.specs.ToolAnswers as program
+use Rattle.cli_settings.specs.declared.setting.Settings.{Settings}
+use Rattle.cli_opening.specs.Looking.{IsBarredBy, IsFoundIn}
 use Rattle.cli_opening.specs.declared.looking.Barred.{Barred}
 use Rattle.cli_opening.specs.declared.looking.Barred.TheVariants as barred
 use Rattle.cli_opening.specs.declared.looking.Found.{Found}
@@ -10,6 +13,7 @@ use Rattle.simplex_member.specs.declared.fault.NodeFault.{NodeFault}
 use Rattle.simplex_member.specs.declared.fault.NodeFault.TheVariants as step
 use Rattle.simplex_member.specs.declared.fault.OpenFault.{OpenFault}
 use Rattle.simplex_member.specs.declared.fault.OpenFault.TheVariants as open_fault
+use Rattle.cli_hosted.specs.Members.{IsFoundFor, owner_of}
 use Rattle.cli_hosted.specs.declared.status.Status.{Status}
 use Rattle.cli_hosted.specs.declared.status.Status.TheVariants as status
 
@@ -21,9 +25,22 @@ asks number = not (nat_eq number 0)
 abbrev pub IsLookedAt : ℕ → ℕ → Bool → List ℕ → Type 0
 IsLookedAt member members cuts bytes = (found : Found) × IsFoundIn member members cuts bytes found
 
--- behind the entries of these bytes stands what no crash leaves: the gate at this place isn't closed, or more stands behind it than that
+-- the same of the member of these settings
+abbrev pub IsLookedAtBy : Settings → Bool → List ℕ → Type 0
+IsLookedAtBy s cuts bytes = (found : Found) × IsFoundFor s cuts bytes found
+
+-- behind the entries of these bytes, as this owner has them in a committee of so many under this base, stands what no crash leaves: the gate at
+-- this place isn't closed, or more stands behind it than that
+abbrev pub IsTornIn : List ℕ → ℕ → Owner → List ℕ → ℕ → Type 0
+IsTornIn base members owner bytes place = IsBarredBy base members owner bytes (barred.Unclosed place) ⊎ IsBarredBy base members owner bytes (barred.Behind place)
+
+-- the same as this member of so many has them under the program's settings
 abbrev pub IsTornAt : ℕ → ℕ → List ℕ → ℕ → Type 0
-IsTornAt member members bytes place = IsBarred member members bytes (barred.Unclosed place) ⊎ IsBarred member members bytes (barred.Behind place)
+IsTornAt member members = IsTornIn (codes "simplex") members (program.owner_of member)
+
+-- the same as the member of these settings has them
+abbrev pub IsTornBy : Settings → List ℕ → ℕ → Type 0
+IsTornBy s = IsTornIn s.committee.base.items s.committee.members (owner_of s)
 
 -- the status of bytes that are left as they are, and the place that is named
 abbrev pub barred_status : Barred → Status

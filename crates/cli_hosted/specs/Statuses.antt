@@ -18,6 +18,8 @@ status_number status.Device = 9
 status_number status.Failed = 10
 status_number status.Torn = 11
 status_number status.NoRecord = 12
+status_number status.Settings = 13
+status_number status.Version = 14
 
 -- two numbers name a place, or none
 abbrev pub Names : ℕ → ℕ → Option ℕ → Type 0

@@ -11,10 +11,12 @@ mod room;
 mod serving;
 mod session;
 mod status;
+mod views;
 
 pub use found::Found;
 pub use handle::Handle;
 pub use place::Place;
 pub use room::put;
-pub use serving::{closed, opened, replies_taken, requests_taken, stepped};
+pub use serving::{closed, opened, opened_by, replies_taken, requests_taken, stepped, views_told};
 pub use status::Status;
+pub use views::Views;

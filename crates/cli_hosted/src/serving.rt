@@ -1,9 +1,12 @@
 //! Calls on a member's node.
 
-ghost use Rattle.std.specs.Prelude.{◌≡◌, ◌≢◌, ◌<◌, ◌⊎◌, Ok, Err, false};
+ghost use Rattle.std.specs.Prelude.{◌≡◌, ◌≢◌, ◌<◌, ◌≤◌, ◌⊎◌, Ok, Err, IfErr, IfOk, false, true};
 ghost use Rattle.journal_look.specs.Look.{BeginsLikeOne};
-ghost use Rattle.cli_hosted.specs.Statuses.{Names};
-ghost use Rattle.cli_hosted.specs.Serving.{IsLookedAt, IsTornAt, barred_place, barred_status, ending_status, run_place, run_status, unopened_place, unopened_status, unstepped_status};
+ghost use Rattle.cli_settings.specs.Checking.{HasTurns, IsGood};
+ghost use Rattle.cli_opening.specs.Looking.{IsBeyondCut};
+ghost use Rattle.cli_hosted.specs.Members.{IsBarredFor, IsFoundFor, owner_of};
+ghost use Rattle.cli_hosted.specs.Statuses.{Names, status_number};
+ghost use Rattle.cli_hosted.specs.Serving.{IsLookedAt, IsLookedAtBy, IsTornAt, IsTornBy, barred_place, barred_status, ending_status, run_place, run_status, unopened_place, unopened_status, unstepped_status};
 ghost use Rattle.cli_hosted.specs.declared.status.Status.TheVariants.{Argument, Device, Done, Foreign, Invalid, NoRecord, Refused, Room, Torn};
 
 use crate::found::Found;
@@ -11,9 +14,13 @@ use crate::handle::Handle;
 use crate::requests::take_all;
 use crate::session::Session;
 use crate::status::Status;
-use cli_opening::{Barred, look_at};
+use crate::views::Views;
+use cli_opening::{Barred, Found as Looked, look_at, look_at_by};
+use cli_settings::Settings;
 use simplex_member::{IoFault, NodeFault, OpenFault};
+use simplex_record::Owner;
 use std::alloc::Global;
+use types_core::{Participant, TermLength};
 
 /// Opens a member's node over its record, where none is open yet and these bytes are one as a crash may leave it. Where `cuts`, its last
 /// gate and what stands behind it may be anything.
@@ -35,30 +42,75 @@ pub fn opened(
     ensures no_record { result ≡ NoRecord → ¬ BeginsLikeOne stored.now }
     ensures named { (result ≡ Refused) ⊎ ((result ≡ Foreign) ⊎ (result ≡ Torn)) → found.new.named ≡ 1 }
     ensures unnamed { (result ≡ Done) ⊎ ((result ≡ Device) ⊎ (result ≡ NoRecord)) → found.new.named ≡ 0 }
+    ensures bound { status_number result ≤ 12 }
 {
     match look_at(alloc, stored, member, members, cuts) {
-        Ok(_) => begun(alloc, members, member, stored, node, found),
+        Ok(_) => begun(Session::open(alloc, members, member, stored), node, found),
         Err(why) => left(why, found),
     }
 }
 
-/// Opens a member's node over its record, where none is open yet.
-fn begun(
+/// The same of a member that is set up by these settings.
+#[tactic(auto, using(crate::proofs::Looked::named_by, crate::proofs::Looked::never_done, crate::proofs::Looked::no_record_by, crate::proofs::Looked::torn_by, crate::proofs::Looked::unnamed_by))]
+pub fn opened_by(
     alloc: Global,
-    members: u16,
-    member: u16,
+    settings: &Settings,
+    cuts: bool,
     stored: &[u8],
     node: &mut Handle,
     found: &mut Found,
 ) -> Status
-    requires { member < members }
+    requires { IsGood settings.now }
     ensures opened { result ≡ Done → node.new.live ≡ 1 }
     ensures unopened { result ≢ Done → node.new ≡ node.old }
-    ensures whole { (result ≢ Torn) × (result ≢ NoRecord) }
+    ensures looked { result ≡ Done → IsLookedAtBy settings.now cuts stored.now }
+    ensures torn { result ≡ Torn → (cuts ≡ false) × IsTornBy settings.now stored.now found.new.place }
+    ensures no_record { result ≡ NoRecord → ¬ BeginsLikeOne stored.now }
+    ensures named { (result ≡ Refused) ⊎ ((result ≡ Foreign) ⊎ (result ≡ Torn)) → found.new.named ≡ 1 }
+    ensures unnamed { (result ≡ Done) ⊎ ((result ≡ Device) ⊎ (result ≡ NoRecord)) → found.new.named ≡ 0 }
+    ensures bound { status_number result ≤ 12 }
+{
+    match look_by(alloc, settings, cuts, stored) {
+        Ok(_) => begun(Session::open_by(alloc, settings, stored), node, found),
+        Err(why) => left(why, found),
+    }
+}
+
+/// Looks at a record's bytes, as the member of these settings has it.
+fn look_by(alloc: Global, settings: &Settings, cuts: bool, stored: &[u8]) -> Result<Looked, Barred>
+    requires { IsGood settings.now }
+    ensures found { IfOk result (IsFoundFor settings.now cuts stored.now) }
+    ensures barred { IfErr result (IsBarredFor settings.now stored.now) }
+    ensures cut { IfErr result (λ why. cuts ≡ true → IsBeyondCut why) }
+{
+    match settings.committee.scheme(alloc, None) {
+        Ok(scheme) => look_at_by(alloc, stored, &scheme, owner_by(settings), cuts),
+        Err(_) => Err(Barred::Memory),
+    }
+}
+
+/// Whose record a member's is by its settings.
+fn owner_by(settings: &Settings) -> Owner
+    requires { HasTurns settings.now.committee.turns }
+    ensures { result ≡ owner_of settings.now }
+{
+    let committee = &settings.committee;
+    Owner {
+        epoch: committee.epoch,
+        term_length: TermLength::new(committee.turns.length),
+        signer: Participant::new(settings.member),
+    }
+}
+
+/// What became of an opening.
+fn begun(opening: Result<Box<Session>, OpenFault>, node: &mut Handle, found: &mut Found) -> Status
+    ensures opened { result ≡ Done → node.new.live ≡ 1 }
+    ensures unopened { result ≢ Done → node.new ≡ node.old }
+    ensures bound { status_number result ≤ 10 }
     ensures named { (result ≡ Refused) ⊎ (result ≡ Foreign) → found.new.named ≡ 1 }
     ensures unnamed { (result ≡ Done) ⊎ (result ≡ Device) → found.new.named ≡ 0 }
 {
-    match Session::open(alloc, members, member, stored) {
+    match opening {
         Ok(session) => {
             found.tell(0, None);
             *node = Handle::of(session);
@@ -72,6 +124,7 @@ fn begun(
 fn left(why: Barred, found: &mut Found) -> Status
     ensures status { result ≡ barred_status why }
     ensures place { Names found.new.named found.new.place (barred_place why) }
+    ensures bound { status_number result ≤ 12 }
 {
     found.tell(0, place_of(why));
     match why {
@@ -101,7 +154,7 @@ pub fn stepped(alloc: Global, node: &mut Handle, events: &[u8], found: &mut Foun
     ensures live { node.old.live ≡ 1 → node.new.live ≡ 1 }
     ensures named { result ≡ Invalid → found.new.named ≡ 1 }
     ensures unnamed { result ≢ Invalid → result ≢ Argument → found.new.named ≡ 0 }
-    ensures whole { (result ≢ Torn) × (result ≢ NoRecord) }
+    ensures bound { status_number result ≤ 10 }
 {
     let Some(mut session) = node.taken(alloc) else {
         return Status::Argument;
@@ -133,12 +186,7 @@ pub fn requests_taken(
 }
 
 /// Puts the replies at the front of the room, where they fit.
-pub fn replies_taken(
-    alloc: Global,
-    node: &mut Handle,
-    room: &mut [u8],
-    found: &mut Found,
-) -> Status
+pub fn replies_taken(alloc: Global, node: &mut Handle, room: &mut [u8], found: &mut Found) -> Status
     ensures dead { node.old.live ≢ 1 → (result ≡ Argument) × (node.new.live ≡ 0) }
     ensures live { node.old.live ≡ 1 → node.new.live ≡ 1 }
     ensures answers { (result ≡ Done) ⊎ ((result ≡ Argument) ⊎ (result ≡ Room)) }
@@ -151,6 +199,21 @@ pub fn replies_taken(
     let taken = take_all(session.replies(), room);
     *node = Handle::of(session);
     fitted(taken, found)
+}
+
+/// Tells the view that the node is in, and the last that is final.
+pub fn views_told(alloc: Global, node: &mut Handle, views: &mut Views) -> Status
+    ensures dead { node.old.live ≢ 1 → (result ≡ Argument) × (node.new.live ≡ 0) × (views.new ≡ views.old) }
+    ensures live { node.old.live ≡ 1 → (result ≡ Done) × (node.new.live ≡ 1) }
+{
+    let Some(session) = node.taken(alloc) else {
+        return Status::Argument;
+    };
+    let (current, finalized) = session.views();
+    *node = Handle::of(session);
+    views.current = current;
+    views.finalized = finalized;
+    Status::Done
 }
 
 /// Lets the node go.
@@ -189,7 +252,7 @@ fn told(ended: Result<(), IoFault>, found: &mut Found) -> Status
     ensures place { Names found.new.named found.new.place (run_place ended) }
     ensures named { result ≡ Invalid → found.new.named ≡ 1 }
     ensures unnamed { result ≢ Invalid → found.new.named ≡ 0 }
-    ensures whole { (result ≢ Torn) × (result ≢ NoRecord) }
+    ensures bound { status_number result ≤ 10 }
 {
     match ended {
         Ok(()) => {
@@ -210,7 +273,7 @@ fn told(ended: Result<(), IoFault>, found: &mut Found) -> Status
 /// Why a call over events ended before them.
 fn ending(fault: IoFault) -> Status
     ensures status { result ≡ ending_status fault }
-    ensures whole { (result ≢ Torn) × (result ≢ NoRecord) }
+    ensures bound { status_number result ≤ 10 }
 {
     match fault {
         IoFault::Read => Status::TooLong,
@@ -226,7 +289,7 @@ fn unopened(fault: OpenFault, found: &mut Found) -> Status
     ensures place { Names found.new.named found.new.place (unopened_place fault) }
     ensures named { (result ≡ Refused) ⊎ (result ≡ Foreign) → found.new.named ≡ 1 }
     ensures unnamed { (result ≡ Done) ⊎ (result ≡ Device) → found.new.named ≡ 0 }
-    ensures whole { (result ≢ Torn) × (result ≢ NoRecord) }
+    ensures bound { status_number result ≤ 10 }
 {
     match fault {
         OpenFault::Foreign(place) => {
@@ -246,7 +309,8 @@ fn unopened(fault: OpenFault, found: &mut Found) -> Status
 
 /// The same where no place is named.
 fn placeless(fault: OpenFault) -> Status
-    ensures { result ≡ unopened_status fault }
+    ensures status { result ≡ unopened_status fault }
+    ensures bound { status_number result ≤ 10 }
 {
     match fault {
         OpenFault::Foreign(_) => Status::Foreign,
@@ -263,7 +327,7 @@ fn placeless(fault: OpenFault) -> Status
 /// Why a step failed.
 fn unstepped(fault: NodeFault) -> Status
     ensures status { result ≡ unstepped_status fault }
-    ensures whole { (result ≢ Torn) × (result ≢ NoRecord) }
+    ensures bound { status_number result ≤ 10 }
 {
     match fault {
         NodeFault::Memory => Status::Memory,

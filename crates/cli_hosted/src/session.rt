@@ -1,34 +1,42 @@
 //! A member's node between two calls.
 
 ghost use Rattle.std.specs.Prelude.{◌≡◌, ◌<◌, ◌++◌, ℕ, IfOk, None, Some};
+ghost use Rattle.cli_settings.specs.Building.{config_of};
+ghost use Rattle.cli_settings.specs.Checking.{IsGood};
+ghost use Rattle.cli_hosted.specs.Members.{AreLeaders, PlainReply, committee_of};
 ghost use Rattle.simplex_member.specs.declared.action.Reply.{Reply};
 ghost use Rattle.simplex_member.specs.Setup.{setup_of};
 ghost use Rattle.node_steps.specs.Keeps.{AtOwn};
 ghost use Rattle.node_steps.specs.Opening.{IsOpenAndSettled};
 ghost use Rattle.simplex_node.specs.Running.{RunFails, RunsTo};
 ghost use Rattle.node_wire.specs.Streaming.{EndsIn, spelled};
+ghost use Rattle.types_terms.specs.Rotation.{Rotation};
 
 use crate::disk::HostedDisk;
 use crate::requests::Requests;
+use cli_settings::Settings;
 use journal_single::Disk;
 use node_steps::Node;
 use node_wire::CountedWriter;
 use simplex_cli::{config, elector, scheme};
 use simplex_member::{IoFault, OpenFault, Reply, Speaks};
 use simplex_node::{open_io, run_io};
-use simplex_types::PlainScheme;
+use simplex_types::{AttestationList, PlainKey, PlainScheme, PlainSignature};
 use std::alloc::{AllocError, Global};
 use std::marker::Model;
 use std::mem;
 use std::rc::Rc;
-use types_core::{Digest, Scheme, Sha256Digest};
+use types_core::{Digest, Scheme, Sha256Digest, Write};
 use types_terms::Elector;
 use types_terms::elector::RoundRobinElector;
 use voter_rules::config::Config;
 
+/// A member's node over a disk that a host keeps.
+type Hosted = Node<PlainScheme, RoundRobinElector, Sha256Digest, HostedDisk>;
+
 /// A member's node, what it asks of the host that keeps its record, and the replies that were not taken yet.
 pub(crate) struct Session {
-    node: Node<PlainScheme, RoundRobinElector, Sha256Digest, HostedDisk>,
+    node: Hosted,
     requests: Requests,
     replies: Vec<u8>,
 }
@@ -67,10 +75,25 @@ impl Session {
         let Ok((disk, requests)) = hosted(alloc, stored) else {
             return Err(OpenFault::Memory);
         };
-        match opened(alloc, members, member, disk, requests) {
-            Ok(session) => boxed(alloc, session),
-            Err(fault) => Err(fault),
-        }
+        let mut replies = Vec::new(alloc);
+        let node = set_up(alloc, members, member, disk, &mut replies);
+        held(alloc, node, requests, replies)
+    }
+
+    /// The same, set up by these settings.
+    pub(crate) fn open_by(
+        alloc: Global,
+        settings: &Settings,
+        stored: &[u8],
+    ) -> Result<Box<Session>, OpenFault>
+        requires { IsGood settings.now }
+    {
+        let Ok((disk, requests)) = hosted(alloc, stored) else {
+            return Err(OpenFault::Memory);
+        };
+        let mut replies = Vec::new(alloc);
+        let node = set_up_by(alloc, settings, disk, &mut replies);
+        held(alloc, node, requests, replies)
     }
 
     /// Answers events, one behind another; the replies are put behind those that were not taken yet.
@@ -86,6 +109,12 @@ impl Session {
     /// The replies that were not taken yet.
     pub(crate) fn replies(&mut self) -> &mut Vec<u8> {
         &mut self.replies
+    }
+
+    /// The view that the node is in, and the last that is final.
+    pub(crate) fn views(&self) -> (u64, u64) {
+        let current = self.node.current_view().get();
+        (current, self.node.last_finalized().get())
     }
 }
 
@@ -107,23 +136,22 @@ fn boxed<T: Drop>(alloc: Global, value: T) -> Result<Box<T>, OpenFault>
     }
 }
 
-/// The session of a member over this disk.
-fn opened(
+/// The session of a node, where it was opened.
+fn held(
     alloc: Global,
-    members: u16,
-    member: u16,
-    disk: HostedDisk,
+    node: Result<Hosted, OpenFault>,
     requests: Requests,
-) -> Result<Session, OpenFault>
-    requires { member < members }
-{
-    let mut replies = Vec::new(alloc);
-    match set_up(alloc, members, member, disk, &mut replies) {
-        Ok(node) => Ok(Session {
-            node,
-            requests,
-            replies,
-        }),
+    replies: Vec<u8>,
+) -> Result<Box<Session>, OpenFault> {
+    match node {
+        Ok(node) => boxed(
+            alloc,
+            Session {
+                node,
+                requests,
+                replies,
+            },
+        ),
         Err(fault) => Err(fault),
     }
 }
@@ -145,6 +173,33 @@ fn set_up<K: Disk>(
         return Err(OpenFault::Memory);
     };
     begin(alloc, config(), scheme, elector, disk, replies)
+}
+
+/// The node of a member over this disk, set up by its settings, and its first reply.
+fn set_up_by<K: Disk>(
+    alloc: Global,
+    settings: &Settings,
+    disk: K,
+    replies: &mut Vec<u8>,
+) -> Result<Node<PlainScheme, RoundRobinElector, Sha256Digest, K>, OpenFault>
+    requires { IsGood settings.now }
+    ensures opened { IfOk result (λ node.
+        (leaders : Rotation) × (first : PlainReply) × AreLeaders settings.now.committee leaders × (first.refused ≡ None) ×
+        (replies.new.items ≡ replies.old.items ++ spelled ⟦<PlainKey as Write>⟧.spelling ⟦<Sha256Digest as Write>⟧.spelling
+        ⟦<PlainSignature as Write>⟧.spelling ⟦<AttestationList<PlainSignature> as Write>⟧.spelling first) ×
+        IsOpenAndSettled ⟦<PlainScheme as Scheme<Sha256Digest>>⟧ ⟦<RoundRobinElector as Elector<PlainScheme, Sha256Digest>>⟧ K.Disk
+        (⟦<PlainScheme as Speaks<Sha256Digest>>⟧.formats settings.now.committee.members)
+        (setup_of ⟦<PlainScheme as Scheme<Sha256Digest>>⟧ ⟦<RoundRobinElector as Elector<PlainScheme, Sha256Digest>>⟧
+        (config_of settings.now) (committee_of settings.now) leaders settings.now.member)
+        ⟦<PlainScheme as Speaks<Sha256Digest>>⟧.readable disk 0 node first.actions.items) }
+{
+    let Ok(scheme) = settings.scheme(alloc) else {
+        return Err(OpenFault::Memory);
+    };
+    let Ok(elector) = settings.committee.elector(alloc) else {
+        return Err(OpenFault::Memory);
+    };
+    begin(alloc, settings.config(), scheme, elector, disk, replies)
 }
 
 /// Opens a member's record at moment 0, and spells what that hands out as a reply.

@@ -32,6 +32,10 @@ pub enum Status {
     Torn,
     /// The bytes begin as no record does.
     NoRecord,
+    /// The settings have a fault.
+    Settings,
+    /// The settings are of another size or version.
+    Version,
 }
 
 impl Status {
@@ -54,6 +58,8 @@ impl Status {
             Status::Failed => 10,
             Status::Torn => 11,
             Status::NoRecord => 12,
+            Status::Settings => 13,
+            Status::Version => 14,
         }
     }
 }

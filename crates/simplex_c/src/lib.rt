@@ -6,11 +6,14 @@
 mod decoding;
 mod node;
 mod questions;
+mod settings;
 mod told_answers;
+mod with_settings;
 
-pub use cli_hosted::{Found, Handle, Place};
 pub use node::{
     voumlis_proved_node_close, voumlis_proved_node_open, voumlis_proved_node_replies,
-    voumlis_proved_node_requests, voumlis_proved_node_step,
+    voumlis_proved_node_requests, voumlis_proved_node_step, voumlis_proved_node_views,
 };
 pub use questions::{voumlis_proved_audit, voumlis_proved_decode, voumlis_proved_first_refused};
+pub use settings::SettingsNumbers;
+pub use with_settings::{voumlis_proved_node_open_with, voumlis_proved_settings_check};

@@ -5,7 +5,8 @@ ghost use Rattle.journal_look.specs.Look.{BeginsLikeOne};
 ghost use Rattle.cli_hosted.specs.Serving.{IsLookedAt, IsTornAt, asks};
 
 use cli_hosted::{
-    Found, Handle, Status, closed, opened, replies_taken, requests_taken, stepped,
+    Found, Handle, Status, Views, closed, opened, replies_taken, requests_taken, stepped,
+    views_told,
 };
 use std::alloc::Global;
 
@@ -101,6 +102,19 @@ pub extern "C" fn voumlis_proved_node_replies(
     ensures statuses { result ≤ 3 }
 {
     replies_taken(alloc, node, room, found).number()
+}
+
+/// Tells the view that a node is in, and the last that is final. Answers 0, or 2 where no node is open.
+#[unsafe(no_mangle)]
+pub extern "C" fn voumlis_proved_node_views(
+    alloc: Global,
+    node: &mut Handle,
+    views: &mut Views,
+) -> u32
+    ensures dead { node.old.live ≢ 1 → (result ≡ 2) × (node.new.live ≡ 0) × (views.new ≡ views.old) }
+    ensures live { node.old.live ≡ 1 → (result ≡ 0) × (node.new.live ≡ 1) }
+{
+    views_told(alloc, node, views).number()
 }
 
 /// Lets a node go. Answers 0, or 2 where none is open.
