@@ -216,6 +216,60 @@ static void test_set_node(void) {
     WANT(voumlis_node_close(&node), VOUMLIS_ARGUMENT);
 }
 
+/* The notarization of view 2 of epoch 0 by members 0, 1 and 2 of four, of docs/FORMATS.md. */
+static const uint8_t front[] = {0, 0, 2, 1};
+static const uint8_t signers[3][33] = {
+    {0, 0xb6, 0x19, 0x4c, 0x39, 0xaa, 0x29, 0xf8, 0x59, 0xc0, 0x78, 0xd1, 0x64, 0x6c, 0x45, 0xf4, 0x81,
+     0x6d, 0xea, 0xee, 0x70, 0x4f, 0xda, 0x83, 0x58, 0x28, 0xa1, 0xe8, 0xd4, 0xe1, 0x94, 0x7d, 0x7c},
+    {1, 0xab, 0xe9, 0x15, 0x8c, 0x3b, 0xdc, 0x71, 0xf0, 0x93, 0x9c, 0x80, 0xb8, 0x1d, 0x8e, 0x0e, 0x60,
+     0x2c, 0x44, 0x6b, 0xdd, 0x5c, 0x95, 0xe5, 0xd4, 0x4f, 0x33, 0x10, 0xce, 0xc6, 0xa9, 0x14, 0xa2},
+    {2, 0xd2, 0xd7, 0x1f, 0xa, 0x33, 0x89, 0xfb, 0xad, 0x2c, 0x17, 0x94, 0x30, 0x9a, 0xcc, 0xb, 0x13,
+     0xbe, 0x19, 0x76, 0x11, 0x82, 0x65, 0xc9, 0xaa, 0x3b, 0xe0, 0x32, 0xb4, 0xe7, 0xe5, 0xc5, 0xc3},
+};
+
+static size_t notarization(uint8_t *at) {
+    memcpy(at, front, sizeof front);
+    memset(at + 4, 0xaa, 32);
+    at[36] = 3;
+    memcpy(at + 37, signers, sizeof signers);
+    return 37 + sizeof signers;
+}
+
+/* Light clients. */
+static void test_light(void) {
+    struct voumlis_settings settings = voumlis_settings_of(4, 0);
+    struct voumlis_certified certified = {7, 7, 7, 7, {7}}, room[2];
+    struct voumlis_found found;
+    uint8_t bytes[256];
+    size_t length = notarization(bytes);
+
+    WANT(voumlis_certifies(&settings, bytes, length - 1, &certified, &found), VOUMLIS_END);
+    WANT(voumlis_certifies(&settings, bytes, length + 1, &certified, &found), VOUMLIS_INVALID);
+    want(__LINE__, certified.kind, 7);
+    WANT(voumlis_certifies(&settings, bytes, length, &certified, &found), VOUMLIS_DONE);
+    want(__LINE__, certified.kind, VOUMLIS_NOTARIZATION);
+    want(__LINE__, (uint32_t)certified.epoch, 0);
+    want(__LINE__, (uint32_t)certified.view, 2);
+    want(__LINE__, (uint32_t)certified.parent, 1);
+    want(__LINE__, memcmp(certified.payload, bytes + 4, 32) != 0, 0);
+    WANT(voumlis_finalized_in(&settings, bytes, length, room, 2, &found), VOUMLIS_NOT_FINAL);
+    want(__LINE__, found.named, 1);
+    want(__LINE__, (uint32_t)found.place, 0);
+    WANT(voumlis_finalized_in(&settings, NULL, 0, NULL, 0, &found), VOUMLIS_DONE);
+    want(__LINE__, (uint32_t)found.length, 0);
+    settings.epoch = 1;
+    WANT(voumlis_certifies(&settings, bytes, length, &certified, &found), VOUMLIS_OTHER_EPOCH);
+    settings.epoch = 0;
+    settings.base_length = 6;
+    WANT(voumlis_certifies(&settings, bytes, length, &certified, &found), VOUMLIS_NOT_CERTIFYING);
+    settings.member = 4;
+    WANT(voumlis_certifies(&settings, bytes, length, &certified, &found), VOUMLIS_SETTINGS);
+    settings.version = 3;
+    WANT(voumlis_certifies(&settings, bytes, length, &certified, &found), VOUMLIS_VERSION);
+    WANT(voumlis_certifies(&settings, bytes, length, NULL, &found), VOUMLIS_ARGUMENT);
+    WANT(voumlis_certifies(&settings, bytes, length, (struct voumlis_certified *)bytes, &found), VOUMLIS_ARGUMENT);
+}
+
 int main(void) {
     struct voumlis_found found;
     union {
@@ -263,5 +317,6 @@ int main(void) {
     test_node();
     test_settings();
     test_set_node();
+    test_light();
     return failed;
 }

@@ -1,4 +1,4 @@
-/* Voumlis for C: the audit of reports, the check of a record, the reading of a message, and a member's node.
+/* Voumlis for C: the audit of reports, the check of a record, the reading of messages and certificates, and a member's node.
  *
  * Link libsimplex_c.a (`cd crates/simplex_c && rt lib` makes it), and three functions over one heap, which the toolchain's archive
  * has, or a program of yours: docs/EMBEDDING.md.
@@ -49,7 +49,10 @@ enum voumlis_status {
     VOUMLIS_TORN = 11,    /* behind a record's entries stands what no crash leaves */
     VOUMLIS_NO_RECORD = 12, /* the bytes begin as no record does */
     VOUMLIS_SETTINGS = 13, /* the settings have a fault: `found->place` is its number */
-    VOUMLIS_VERSION = 14   /* the settings are of another size or version than the library reads */
+    VOUMLIS_VERSION = 14,  /* the settings are of another size or version than the library reads */
+    VOUMLIS_OTHER_EPOCH = 15,    /* a certificate of another epoch */
+    VOUMLIS_NOT_CERTIFYING = 16, /* a certificate that isn't signed as one of these members */
+    VOUMLIS_NOT_FINAL = 17       /* a certificate that is no finalization, or not of a later view */
 };
 
 /* Kinds of messages. */
@@ -152,6 +155,20 @@ struct voumlis_views {
     uint64_t finalized; /* the last view that is final, or 0 */
 };
 
+/* What a certificate certifies. */
+enum voumlis_certificate {
+    VOUMLIS_NOTARIZATION = 0,  /* that a proposal may be built on */
+    VOUMLIS_NULLIFICATION = 1, /* that a round is given up: then parent and payload are zeros */
+    VOUMLIS_FINALIZATION = 2   /* that a proposal is final */
+};
+struct voumlis_certified {
+    uint32_t kind; /* enum voumlis_certificate */
+    uint64_t epoch;
+    uint64_t view;
+    uint64_t parent; /* the parent's view */
+    uint8_t payload[32];
+};
+
 /* The proved functions, which test no pointer. */
 uint32_t voumlis_proved_audit(uint16_t members, const uint8_t *reports, size_t reports_length, uint8_t *evidence,
                          size_t evidence_length, struct voumlis_found *found);
@@ -166,6 +183,12 @@ uint32_t voumlis_proved_node_open_with(const struct voumlis_settings *settings, 
 uint32_t voumlis_proved_settings_check(const struct voumlis_settings *settings, const uint8_t *base, size_t base_length,
                                        const uint8_t *seed, size_t seed_length, struct voumlis_found *found);
 uint32_t voumlis_proved_node_views(struct voumlis_node *node, struct voumlis_views *views);
+uint32_t voumlis_proved_certifies(const struct voumlis_settings *settings, const uint8_t *base, size_t base_length,
+                                  const uint8_t *seed, size_t seed_length, const uint8_t *bytes, size_t length,
+                                  struct voumlis_certified *certified, struct voumlis_found *found);
+uint32_t voumlis_proved_finalized_in(const struct voumlis_settings *settings, const uint8_t *base, size_t base_length,
+                                     const uint8_t *seed, size_t seed_length, const uint8_t *bytes, size_t length,
+                                     struct voumlis_certified *room, size_t room_length, struct voumlis_found *found);
 uint32_t voumlis_proved_node_step(struct voumlis_node *node, const uint8_t *events, size_t length, struct voumlis_found *found);
 uint32_t voumlis_proved_node_requests(struct voumlis_node *node, uint8_t *room, size_t length, struct voumlis_found *found);
 uint32_t voumlis_proved_node_replies(struct voumlis_node *node, uint8_t *room, size_t length, struct voumlis_found *found);
@@ -303,6 +326,59 @@ static inline uint32_t voumlis_settings_check(const struct voumlis_settings *set
     if (status != VOUMLIS_DONE)
         return status;
     return voumlis_proved_settings_check(settings, base, settings->base_length, seed, settings->seed_length, found);
+}
+
+/* Whether so many values, each of this size, may lie there to be written, beside what is told. */
+static inline int voumlis_has_room(const void *room, size_t count, size_t size, const struct voumlis_found *found) {
+    return count <= SIZE_MAX / 2 / size && voumlis_lies(room, count * size) && (uintptr_t)room % sizeof(uint64_t) == 0 &&
+           voumlis_apart(room, count * size, found, sizeof *found);
+}
+
+/* What a certificate certifies for the members of these settings, of which these are just the bytes; the settings are any
+ * member's. DONE: `certified` has it. END, INVALID, TOO_LONG: they aren't just one certificate: the first trouble from the
+ * left. OTHER_EPOCH. NOT_CERTIFYING. SETTINGS, VERSION, ARGUMENT, MEMORY as of `voumlis_settings_check`. But where it answers
+ * DONE, `certified` is as it was. */
+static inline uint32_t voumlis_certifies(const struct voumlis_settings *settings, const uint8_t *bytes, size_t length,
+                                         struct voumlis_certified *certified, struct voumlis_found *found) {
+    const uint8_t *base, *seed;
+    uint32_t status;
+    if (!voumlis_fits(&bytes, length, found) || !voumlis_has_room(certified, 1, sizeof *certified, found) ||
+        !voumlis_apart(certified, sizeof *certified, bytes, length))
+        return VOUMLIS_ARGUMENT;
+    status = voumlis_sets(settings, &base, &seed, found);
+    if (status != VOUMLIS_DONE)
+        return status;
+    if (!voumlis_apart(certified, sizeof *certified, settings, sizeof *settings) ||
+        !voumlis_apart(certified, sizeof *certified, base, settings->base_length) ||
+        !voumlis_apart(certified, sizeof *certified, seed, settings->seed_length))
+        return VOUMLIS_ARGUMENT;
+    return voumlis_proved_certifies(settings, base, settings->base_length, seed, settings->seed_length, bytes, length,
+                                    certified, found);
+}
+
+/* The proposals that certificates, one behind another, make final for the members of these settings, each of a later view than
+ * the one before; what is missing between them isn't looked at. DONE: `room` begins with `found->length` of them. ROOM: so
+ * many are needed. Else the place is that of the first certificate that is none such: END, INVALID, TOO_LONG, OTHER_EPOCH,
+ * NOT_CERTIFYING, NOT_FINAL. SETTINGS, VERSION, ARGUMENT, MEMORY as of `voumlis_settings_check`. */
+static inline uint32_t voumlis_finalized_in(const struct voumlis_settings *settings, const uint8_t *bytes, size_t length,
+                                            struct voumlis_certified *room, size_t room_length, struct voumlis_found *found) {
+    const uint8_t *base, *seed;
+    struct voumlis_certified none;
+    uint32_t status;
+    if (room_length == 0)
+        room = &none;
+    if (!voumlis_fits(&bytes, length, found) || !voumlis_has_room(room, room_length, sizeof *room, found) ||
+        !voumlis_apart(room, room_length * sizeof *room, bytes, length))
+        return VOUMLIS_ARGUMENT;
+    status = voumlis_sets(settings, &base, &seed, found);
+    if (status != VOUMLIS_DONE)
+        return status;
+    if (!voumlis_apart(room, room_length * sizeof *room, settings, sizeof *settings) ||
+        !voumlis_apart(room, room_length * sizeof *room, base, settings->base_length) ||
+        !voumlis_apart(room, room_length * sizeof *room, seed, settings->seed_length))
+        return VOUMLIS_ARGUMENT;
+    return voumlis_proved_finalized_in(settings, base, settings->base_length, seed, settings->seed_length, bytes, length, room,
+                                       room_length, found);
 }
 
 /* Opens a node as `voumlis_node_open_cutting` does, but with these settings, which are read during the call alone. Answers as

@@ -1,4 +1,4 @@
-//! The audit of reports, the check of a record, the reading of a message, and a member's node, by code that is proved.
+//! The audit of reports, the check of a record, the reading of messages and certificates, and a member's node, by code that is proved.
 //!
 //! Safe Rust over the static library `simplex_c`. Its functions ask nothing of numbers and bytes, each slice is passed with its own
 //! length, and a node's handle is written by the library alone, so no call from safe code is undefined. Trusted, beside the proofs:
@@ -6,11 +6,13 @@
 
 mod handle;
 mod heap;
+mod light;
 mod node;
 mod settings;
 pub mod wire;
 
 use handle::Handle;
+pub use light::{Broken, Certified, Uncertified, certifies, finalized_in};
 pub use node::{Ending, Node, Views};
 pub use settings::{Forwarding, Settings, SettingsError, SettingsFault, Skips};
 

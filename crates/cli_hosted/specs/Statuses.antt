@@ -20,6 +20,9 @@ status_number status.Torn = 11
 status_number status.NoRecord = 12
 status_number status.Settings = 13
 status_number status.Version = 14
+status_number status.OtherEpoch = 15
+status_number status.NotCertifying = 16
+status_number status.NotFinal = 17
 
 -- two numbers name a place, or none
 abbrev pub Names : ℕ → ℕ → Option ℕ → Type 0

@@ -74,7 +74,7 @@ pub(crate) fn take_all(list: &mut Vec<u8>, room: &mut [u8]) -> Result<usize, usi
     ensures kept { OnErr result (list.new.items ≡ list.old.items) }
 {
     let size = list.len();
-    if !put(list, room) {
+    if !put(list.as_slice(), room) {
         return Err(size);
     }
     list.clear();

@@ -36,6 +36,12 @@ pub enum Status {
     Settings,
     /// The settings are of another size or version.
     Version,
+    /// A certificate is of another epoch.
+    OtherEpoch,
+    /// A certificate isn't signed as one of these members.
+    NotCertifying,
+    /// A certificate is no finalization, or not of a later view.
+    NotFinal,
 }
 
 impl Status {
@@ -60,6 +66,9 @@ impl Status {
             Status::NoRecord => 12,
             Status::Settings => 13,
             Status::Version => 14,
+            Status::OtherEpoch => 15,
+            Status::NotCertifying => 16,
+            Status::NotFinal => 17,
         }
     }
 }

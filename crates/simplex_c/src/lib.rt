@@ -4,12 +4,14 @@
 #![tactic(auto)]
 
 mod decoding;
+mod light;
 mod node;
 mod questions;
 mod settings;
 mod told_answers;
 mod with_settings;
 
+pub use light::{CertifiedNumbers, voumlis_proved_certifies, voumlis_proved_finalized_in};
 pub use node::{
     voumlis_proved_node_close, voumlis_proved_node_open, voumlis_proved_node_replies,
     voumlis_proved_node_requests, voumlis_proved_node_step, voumlis_proved_node_views,
