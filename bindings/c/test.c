@@ -235,13 +235,14 @@ static size_t notarization(uint8_t *at) {
     return 37 + sizeof signers;
 }
 
-/* Light clients. */
+/* Light clients, and hosts with keys. */
 static void test_light(void) {
     struct voumlis_settings settings = voumlis_settings_of(4, 0);
     struct voumlis_certified certified = {7, 7, 7, 7, {7}}, room[2];
+    struct voumlis_attestation attestations[3];
     struct voumlis_found found;
     uint8_t bytes[256];
-    size_t length = notarization(bytes);
+    size_t length = notarization(bytes), i;
 
     WANT(voumlis_certifies(&settings, bytes, length - 1, &certified, &found), VOUMLIS_END);
     WANT(voumlis_certifies(&settings, bytes, length + 1, &certified, &found), VOUMLIS_INVALID);
@@ -268,6 +269,18 @@ static void test_light(void) {
     WANT(voumlis_certifies(&settings, bytes, length, &certified, &found), VOUMLIS_VERSION);
     WANT(voumlis_certifies(&settings, bytes, length, NULL, &found), VOUMLIS_ARGUMENT);
     WANT(voumlis_certifies(&settings, bytes, length, (struct voumlis_certified *)bytes, &found), VOUMLIS_ARGUMENT);
+
+    WANT(voumlis_attestations(VOUMLIS_CERTIFICATE, 4, bytes, length, attestations, 2, &found), VOUMLIS_ROOM);
+    want(__LINE__, (uint32_t)found.length, 3);
+    WANT(voumlis_attestations(VOUMLIS_CERTIFICATE, 4, bytes, length, attestations, 3, &found), VOUMLIS_DONE);
+    for (i = 0; i < 3; i++) {
+        want(__LINE__, attestations[i].signer, (uint32_t)i);
+        want(__LINE__, (uint32_t)attestations[i].place, (uint32_t)(38 + 33 * i));
+        want(__LINE__, memcmp(attestations[i].hash, signers[i] + 1, 32) != 0, 0);
+    }
+    WANT(voumlis_attestations(VOUMLIS_CERTIFICATE, 2, bytes, length, attestations, 3, &found), VOUMLIS_TOO_LONG);
+    WANT(voumlis_attestations(VOUMLIS_ARTIFACT, 4, verdict, 4, NULL, 0, &found), VOUMLIS_DONE);
+    WANT(voumlis_attestations(4, 4, verdict, 4, NULL, 0, &found), VOUMLIS_ARGUMENT);
 }
 
 int main(void) {

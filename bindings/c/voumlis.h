@@ -169,6 +169,13 @@ struct voumlis_certified {
     uint8_t payload[32];
 };
 
+/* An attestation of a message. */
+struct voumlis_attestation {
+    uint64_t place;   /* of the signature's first byte in the message */
+    uint32_t signer;  /* the index of the member in whose name it stands */
+    uint8_t hash[32]; /* the plain scheme's signature: what that member's key signs, where members have keys */
+};
+
 /* The proved functions, which test no pointer. */
 uint32_t voumlis_proved_audit(uint16_t members, const uint8_t *reports, size_t reports_length, uint8_t *evidence,
                          size_t evidence_length, struct voumlis_found *found);
@@ -189,6 +196,8 @@ uint32_t voumlis_proved_certifies(const struct voumlis_settings *settings, const
 uint32_t voumlis_proved_finalized_in(const struct voumlis_settings *settings, const uint8_t *base, size_t base_length,
                                      const uint8_t *seed, size_t seed_length, const uint8_t *bytes, size_t length,
                                      struct voumlis_certified *room, size_t room_length, struct voumlis_found *found);
+uint32_t voumlis_proved_attestations(uint32_t kind, uint32_t members, const uint8_t *bytes, size_t length,
+                                     struct voumlis_attestation *room, size_t room_length, struct voumlis_found *found);
 uint32_t voumlis_proved_node_step(struct voumlis_node *node, const uint8_t *events, size_t length, struct voumlis_found *found);
 uint32_t voumlis_proved_node_requests(struct voumlis_node *node, uint8_t *room, size_t length, struct voumlis_found *found);
 uint32_t voumlis_proved_node_replies(struct voumlis_node *node, uint8_t *room, size_t length, struct voumlis_found *found);
@@ -379,6 +388,20 @@ static inline uint32_t voumlis_finalized_in(const struct voumlis_settings *setti
         return VOUMLIS_ARGUMENT;
     return voumlis_proved_finalized_in(settings, base, settings->base_length, seed, settings->seed_length, bytes, length, room,
                                        room_length, found);
+}
+
+/* The attestations of the message at the front of these bytes, in their order. DONE: `room` begins with `found->length` of
+ * them. ROOM: so many are needed. END, INVALID, TOO_LONG, ARGUMENT as of `voumlis_decode`. MEMORY. */
+static inline uint32_t voumlis_attestations(uint32_t kind, uint32_t members, const uint8_t *bytes, size_t length,
+                                            struct voumlis_attestation *room, size_t room_length,
+                                            struct voumlis_found *found) {
+    struct voumlis_attestation none;
+    if (room_length == 0)
+        room = &none;
+    if (!voumlis_fits(&bytes, length, found) || !voumlis_has_room(room, room_length, sizeof *room, found) ||
+        !voumlis_apart(room, room_length * sizeof *room, bytes, length))
+        return VOUMLIS_ARGUMENT;
+    return voumlis_proved_attestations(kind, members, bytes, length, room, room_length, found);
 }
 
 /* Opens a node as `voumlis_node_open_cutting` does, but with these settings, which are read during the call alone. Answers as

@@ -4,6 +4,7 @@
 //! length, and a node's handle is written by the library alone, so no call from safe code is undefined. Trusted, beside the proofs:
 //! the declarations of foreign functions here, which nothing compares with the library's, and the heap of the module `heap`.
 
+mod attesting;
 mod handle;
 mod heap;
 mod light;
@@ -11,6 +12,7 @@ mod node;
 mod settings;
 pub mod wire;
 
+pub use attesting::{Attestation, attestations};
 use handle::Handle;
 pub use light::{Broken, Certified, Uncertified, certifies, finalized_in};
 pub use node::{Ending, Node, Views};

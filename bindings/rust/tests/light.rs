@@ -1,4 +1,4 @@
-//! Light clients: over the rows of docs/vectors.json, and over what a committee of seven sends.
+//! Light clients, and hosts that have keys: over the rows of docs/vectors.json, and over what a committee of seven sends.
 
 mod common;
 
@@ -6,8 +6,8 @@ use common::committee::Committee;
 use common::{bytes, rows, word};
 use voumlis::wire::{Channel, Proposal, Round};
 use voumlis::{
-    Broken, Certified, Refusal, Settings, SettingsError, SettingsFault, Uncertified,
-    certifies, finalized_in,
+    Broken, Certified, Kind, Refusal, Settings, SettingsError, SettingsFault, Uncertified,
+    attestations, certifies, finalized_in,
 };
 
 /// A committee that goes by the settings of the program.
@@ -118,4 +118,59 @@ fn a_chain_of_finalizations_is_taken_as_far_as_it_goes() {
         ..
     } = proposals[0];
     assert_eq!(epoch, 4);
+}
+
+/// Each attestation of the row's message, as the row writes it: signer and signature.
+fn listed(row: &str) -> Vec<(u32, Vec<u8>)> {
+    let (_, value) = row.split_once("\"value\":").unwrap();
+    let parts = value.split("\"signer\":").skip(1);
+    parts
+        .map(|part| {
+            let signer = part.split([',', '}']).next().unwrap().trim();
+            let signature = word(part, "signature");
+            (signer.parse().unwrap(), bytes(signature))
+        })
+        .collect()
+}
+
+#[test]
+fn attestations_stand_where_they_are_told() {
+    // Of each kind, and of those with two at least.
+    let mut counts = [0; 5];
+    for row in rows("read") {
+        let kind = match word(&row, "type") {
+            "vote" => Kind::Vote,
+            "certificate" => Kind::Certificate,
+            "artifact" => Kind::Artifact,
+            "report" => Kind::Report,
+            _ => continue,
+        };
+        if word(&row, "scheme") != "plain" {
+            continue;
+        }
+        let members = word(&row, "members").parse().unwrap();
+        let spelled = bytes(word(&row, "bytes"));
+        let found = attestations(kind, members, &spelled).unwrap();
+        let told: Vec<_> = found
+            .iter()
+            .map(|it| (it.signer, it.hash.to_vec()))
+            .collect();
+        assert_eq!(told, listed(&row), "{row}");
+        let mut behind = 0;
+        for it in &found {
+            let place = it.place as usize;
+            assert!(behind < place);
+            assert_eq!(spelled[place..place + 32], it.hash, "{row}");
+            behind = place + 32;
+        }
+        // The last signature ends the message, where it has one.
+        assert!(found.is_empty() || behind == spelled.len(), "{row}");
+        for size in 0..spelled.len() {
+            let cut = attestations(kind, members, &spelled[..size]);
+            assert_eq!(cut, Err(Refusal::End), "{row}");
+        }
+        counts[kind as usize] += 1;
+        counts[4] += usize::from(found.len() > 1);
+    }
+    assert!(counts.iter().all(|count| *count > 2), "{counts:?}");
 }

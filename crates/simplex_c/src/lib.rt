@@ -3,6 +3,7 @@
 //! passed.
 #![tactic(auto)]
 
+mod attesting;
 mod decoding;
 mod light;
 mod node;
@@ -11,6 +12,7 @@ mod settings;
 mod told_answers;
 mod with_settings;
 
+pub use attesting::voumlis_proved_attestations;
 pub use light::{CertifiedNumbers, voumlis_proved_certifies, voumlis_proved_finalized_in};
 pub use node::{
     voumlis_proved_node_close, voumlis_proved_node_open, voumlis_proved_node_replies,
