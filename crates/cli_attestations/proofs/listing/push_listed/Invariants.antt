@@ -1,4 +1,4 @@
-use Rattle.std.proofs.Common.{◌≡◌, ◌+◌, ◌<◌, ◌^◌, ◌++◌, length}
+use Rattle.std.proofs.Common.{◌≡◌, ◌+◌, ◌*◌, ◌<◌, ◌^◌, ◌++◌, length}
 use Rattle.cli_attestations.specs.Marks.{marks_from}
 use Rattle.cli_attestations.proofs.listing.push_listed.Given as goal
 
