@@ -244,6 +244,9 @@ fn signatures_are_on_the_disk_before_what_rests_on_them_leaves() {
     };
     let signed: Vec<Signature> = (1..4).map(|it| signature(&nullify(1, it))).collect();
     assert_eq!(sealed.signatures, signed);
+    // They were synced for it: that they are in the file shows only that they were written.
+    let syncs = &member.metrics.syncs;
+    assert!(syncs.with_label_values(&["signatures"]).get() > 0);
     member.stop();
 }
 
