@@ -1,10 +1,10 @@
 -- What a call tells of disks.
 use Rattle.std.specs.Prelude.{◌≡◌, ◌≢◌, Result, Ok, Err, IfErr, IsErrOf, OnOk}
-use Rattle.std.proofs.Common.{◌∙◌}
+use Rattle.std.proofs.Common.{◌∙◌, refl}
 use Rattle.journal_single.specs.declared.disk.Disk as disk
 use Rattle.journal_books.specs.declared.disks.Disks.{Disks}
-use Rattle.journal_books.specs.Books.{HasFailed, HasNotFailed}
-use Rattle.journal_books.specs.BooksLaws.{failed_then, not_failed_then}
+use Rattle.journal_books.specs.Books.{HasFailed, HasNotFailed, are_two}
+use Rattle.journal_books.specs.BooksLaws.{failed_then, not_failed_then, same_kind, same_kind_failed}
 use Rattle.simplex_member.specs.declared.fault.NodeFault.{NodeFault}
 use Rattle.simplex_member.specs.declared.fault.NodeFault.TheVariants as step_fault
 
@@ -35,6 +35,13 @@ module _ {K : Type 0} {k : disk.Ghosts K} where
   -- a call behind one that didn't fail
   pub tells_behind : {A B : Type 0} {old mid new : Disks K} {x : A} {answer : Result B NodeFault} → TellsOfDisk k old mid (Ok x) → TellsOfDisk k mid new answer → TellsOfDisk k old new answer
   tells_behind {old = old} {mid = mid} {new = new} {x = x} {answer = answer} one other = tells_both old mid new x answer one other
+
+  -- they are as many as before
+  pub tells_as_many : {A : Type 0} (old new : Disks K) (answer : Result A NodeFault) → TellsOfDisk k old new answer → are_two new ≡ are_two old
+  tells_as_many old new (Ok x) told = same_kind k old new told.no_fault
+  tells_as_many old new (Err step_fault.Device) told = same_kind_failed k old new (told.device refl)
+  tells_as_many old new (Err step_fault.Memory) told = same_kind k old new (told.no_device (λ is. absurd (cc is)))
+  tells_as_many old new (Err step_fault.Failed) told = absurd (told.not_failed refl)
 
   -- another answer that is none of a fault, or of the same
   pub tells_ok : {A B : Type 0} {old new : Disks K} {x : A} {y : B} → TellsOfDisk k old new (Ok x) → TellsOfDisk k old new (Ok y)

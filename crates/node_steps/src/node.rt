@@ -72,8 +72,8 @@ impl<S: Scheme<D> + Drop, L: Elector<S, D>, D: Digest, K: Disk> Node<S, L, D, K>
         self.into_disks().two()
     }
 
-    /// Gives the disks back.
-    pub(crate) fn into_disks(self) -> Disks<K>
+    /// Gives back the disks that it stands on, one or two.
+    pub fn into_disks(self) -> Disks<K>
         ensures disks { result ≡ disks_of self }
         ensures left { AtOwn S.Scheme L.Elector K.Disk ⟦<S as Speaks<D>>⟧.formats self
             (λ f s h. K.keeps → (read : List (List ℕ)) → MayBeRead K.Disk result read → ReadsAs S.Scheme f s read h) }

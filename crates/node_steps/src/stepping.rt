@@ -1,7 +1,7 @@
 //! Steps: an event is refused or taken, and what it brings is done.
 
 ghost use Rattle.std.specs.Prelude.{◌≡◌, Some, true, false, IfOk, OnErr, OnOk, IsErrOf, IsOk};
-ghost use Rattle.journal_books.specs.Books.{HasFailed, HasNotFailed, LeaveBook};
+ghost use Rattle.journal_books.specs.Books.{HasFailed, HasNotFailed, LeaveBook, are_two};
 ghost use Rattle.simplex_member.specs.First.{IsFirst};
 ghost use Rattle.simplex_member.specs.Member.{IsReached, Steps};
 ghost use Rattle.simplex_member.specs.Point.{History};
@@ -34,6 +34,7 @@ impl<S: Scheme<D> + Drop, L: Elector<S, D>, D: Digest, K: Disk> Node<S, L, D, K>
         ensures device { IsErrOf result NodeFault.Device → HasFailed K.Disk (disks_of self.old) (disks_of self.new) }
         ensures no_device { IsErrOf result NodeFault.Memory → HasNotFailed K.Disk (disks_of self.old) (disks_of self.new) }
         ensures no_fault { OnOk result (HasNotFailed K.Disk (disks_of self.old) (disks_of self.new)) }
+        ensures as_many { are_two (disks_of self.new) ≡ are_two (disks_of self.old) }
 
         // A crash at any moment of the call leaves the record at a point of the step.
         ensures any_moment { AtOwn S.Scheme L.Elector K.Disk ⟦<S as Speaks<D>>⟧.formats self.old

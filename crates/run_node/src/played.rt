@@ -100,8 +100,12 @@ impl<S: Scheme<D> + Drop, L: Turns<S, D>, D: Digest, K: Disk> Seat<
         node.is_failed()
     }
 
-    fn close(node: Node<S, L, D, K>) -> K {
-        node.close()
+    fn close(node: Node<S, L, D, K>) -> Option<K> {
+        if node.is_pair() {
+            drop(node.into_disks());
+            return None;
+        }
+        Some(node.close())
     }
 }
 

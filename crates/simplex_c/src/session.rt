@@ -1,6 +1,7 @@
 //! A member's node between two calls.
 
 ghost use Rattle.std.specs.Prelude.{◌≡◌, ◌<◌, ◌++◌, ℕ, IfOk, None, Some};
+ghost use Rattle.journal_books.specs.declared.disks.Disks.TheVariants.{One};
 ghost use Rattle.simplex_member.specs.declared.action.Reply.{Reply};
 ghost use Rattle.simplex_member.specs.Setup.{setup_of};
 ghost use Rattle.node_steps.specs.Keeps.{AtOwn};
@@ -41,7 +42,7 @@ impl Drop for Session {
             requests: _,
             replies: _,
         } = self;
-        drop(node.close());
+        drop(node.into_disks());
     }
 }
 
@@ -162,7 +163,7 @@ fn begin<S: Scheme<D> + Drop, L: Elector<S, D>, D: Digest, K: Disk>(
         ×
         (replies.new.items ≡ replies.old.items ++ spelled S.PublicKey.spelling D.spelling S.Signature.spelling S.Certificate.spelling first)
         × IsOpenAndSettled S.Scheme L.Elector K.Disk (⟦<S as Speaks<D>>⟧.formats (S.size scheme.value))
-        (setup_of S.Scheme L.Elector config scheme.value elector index) ⟦<S as Speaks<D>>⟧.readable disk 0 node first.actions.items) }
+        (setup_of S.Scheme L.Elector config scheme.value elector index) ⟦<S as Speaks<D>>⟧.readable (One disk) 0 node first.actions.items) }
 {
     let mut output = CountedWriter::new(mem::replace(replies, Vec::new(alloc)));
     let opened = open_io(alloc, config, scheme, elector, disk, 0, &mut output);

@@ -4,8 +4,8 @@ use Rattle.std.specs.Prelude.{Result, Ok, Err}
 use Rattle.types_core.specs.declared.scheme.Scheme.{Ghosts}
 use Rattle.types_terms.specs.declared.elector.Elector as elector
 use Rattle.journal_single.specs.declared.disk.Disk as disk
-use Rattle.journal_books.specs.Books.{HasFailed, HasNotFailed}
-use Rattle.journal_books.specs.BooksLaws.{failed_then, not_failed_then, same_not_failed}
+use Rattle.journal_books.specs.Books.{HasFailed, HasNotFailed, are_two}
+use Rattle.journal_books.specs.BooksLaws.{failed_then, not_failed_then, same_kind, same_kind_failed, same_not_failed}
 use Rattle.simplex_member.specs.declared.action.Reply.{Reply}
 use Rattle.simplex_member.specs.declared.event.Event.{Event}
 use Rattle.simplex_member.specs.declared.fault.NodeFault.{NodeFault}
@@ -65,6 +65,16 @@ module _ {S L D P G C K : Type 0} (g : Ghosts S D P G C) (e : elector.Ghosts L S
   pub no_fault : (old new : Node S L D K P G C) (events : List (Event D)) (replies : List (Reply S D P G C)) (event : Event D) (why : NodeFault) → AnswerBefore (IsStep g e k formats) old new events replies event why
       → why ≢ Device → HasNotFailed k (disks_of old) (disks_of new)
   no_fault old new events replies event why a other = not_failed_then k (disks_of old) (disks_of a.before) (disks_of new) (same_faults old a.before events replies a.answer) (step_without a.before new event why a.failed other)
+
+  -- the disks are as many as before
+  pub as_many : (old new : Node S L D K P G C) (events : List (Event D)) (replies : List (Reply S D P G C)) → Answer (IsStep g e k formats) old new events replies → are_two (disks_of new) ≡ are_two (disks_of old)
+  as_many old new events replies answer = same_kind k (disks_of old) (disks_of new) (same_faults old new events replies answer)
+
+  pub as_many_too : (old new : Node S L D K P G C) (events : List (Event D)) (replies : List (Reply S D P G C)) (event : Event D) (why : NodeFault) → AnswerBefore (IsStep g e k formats) old new events replies event why
+      → are_two (disks_of new) ≡ are_two (disks_of old)
+  as_many_too old new events replies event Device a = same_kind_failed k (disks_of old) (disks_of new) (one_fault old new events replies event Device a refl)
+  as_many_too old new events replies event Memory a = same_kind k (disks_of old) (disks_of new) (no_fault old new events replies event Memory a (λ is. absurd (cc is)))
+  as_many_too old new events replies event Failed a = same_kind k (disks_of old) (disks_of new) (no_fault old new events replies event Failed a (λ is. absurd (cc is)))
 
   module _ (s : Setup S D C) where
     -- steps that answer are a run

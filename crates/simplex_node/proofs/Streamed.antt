@@ -5,7 +5,7 @@ use Rattle.types_codec.specs.declared.codec.CodecError.{CodecError}
 use Rattle.types_core.specs.declared.scheme.Scheme.{Ghosts}
 use Rattle.types_terms.specs.declared.elector.Elector as elector
 use Rattle.journal_single.specs.declared.disk.Disk as disk
-use Rattle.journal_books.specs.Books.{HasFailed, HasNotFailed}
+use Rattle.journal_books.specs.Books.{HasFailed, HasNotFailed, are_two}
 use Rattle.simplex_member.specs.declared.action.Reply.{Reply}
 use Rattle.simplex_member.specs.declared.fault.IoFault.{IoFault}
 use Rattle.simplex_member.specs.declared.fault.IoFault.TheVariants as fault
@@ -21,7 +21,7 @@ use Rattle.node_wire.specs.Stepper.{Answer, AnswerBefore}
 use Rattle.node_wire.specs.Streaming.{EndsIn}
 use Rattle.simplex_node.specs.Running.{IsPassed, LeavesAtMost, LeavesPassed, RunFails, RunsTo}
 use Rattle.simplex_node.specs.Stepping.{IsStep}
-use Rattle.simplex_node.proofs.Stepped.{failed_stays, failed_stays_too, leaves, leaves_too, no_fault, one_fault, runs, runs_fail, same_faults}
+use Rattle.simplex_node.proofs.Stepped.{as_many, as_many_too, failed_stays, failed_stays_too, leaves, leaves_too, no_fault, one_fault, runs, runs_fail, same_faults}
 
 -- the reason that is told of a step
 abbrev told : {A : Type 0} → NodeFault → Result A IoFault → NodeFault
@@ -54,6 +54,11 @@ module _ {S L D P G C K A : Type 0} (g : Ghosts S D P G C) (e : elector.Ghosts L
   io_no_device other =
       ends_by F p w q (Answer (IsStep g e k formats) old new) (AnswerBefore (IsStep g e k formats) old new) ReadFailed r given text more
       (λ events replies a not. same_faults g e k formats old new events replies a) (λ events replies event y same a. no_fault g e k formats old new events replies event y a (λ is. other (same ∙ ap (λ (x : NodeFault). Err (fault.Node x)) is))) ends
+
+  pub io_as_many : are_two (disks_of new) ≡ are_two (disks_of old)
+  io_as_many =
+      ends_by F p w q (Answer (IsStep g e k formats) old new) (AnswerBefore (IsStep g e k formats) old new) ReadFailed r given text more
+      (λ events replies a not. as_many g e k formats old new events replies a) (λ events replies event y same a. as_many_too g e k formats old new events replies event y a) ends
 
   module _ (s : Setup S D C) (h : History S D P G C) (keeps : NodeKeeps g e k (formats (g.size s.voter.scheme)) s old h) where
     pub io_answers : EndsIn F p w {A = A} q (RunsTo g e k (formats (g.size s.voter.scheme)) s h new) (RunFails g e k (formats (g.size s.voter.scheme)) s h new) ReadFailed r given text more

@@ -19,7 +19,7 @@ use Rattle.journal_books.specs.declared.disks.Disks.{Disks}
 use Rattle.journal_books.specs.Books as words
 use Rattle.journal_books.specs.declared.disks.Disks.TheVariants.{One, Two}
 use Rattle.journal_books.specs.Books.{HasFailed, HasNotFailed, IsBook, Leave, MayBeRead, are_two}
-use Rattle.journal_books.specs.BooksLaws.{book_leaves, left_last, same_kind, same_kind_failed}
+use Rattle.journal_books.specs.BooksLaws.{book_leaves, left_last}
 use Rattle.simplex_member.specs.declared.action.Action.{Action}
 use Rattle.simplex_member.specs.declared.action.Reply.{Reply}
 use Rattle.simplex_member.specs.declared.event.Event.{Event}
@@ -258,13 +258,6 @@ failed-on {K} k old new d now over over-now told = subst (λ (x : Disks K). HasF
 
 pub not-failed-on : {K : Type 0} (k : disk.Ghosts K) (old new : Disks K) (d now : K) → old ≡ One d → new ≡ One now → HasNotFailed k old new → k.failed now ≡ k.failed d
 not-failed-on {K} k old new d now over over-now told = subst (λ (x : Disks K). HasNotFailed k (One d) x) over-now (subst (λ (x : Disks K). HasNotFailed k x new) over told)
-
--- steps leave as many disks as there were
-pub kind-after : {K : Type 0} (k : disk.Ghosts K) (fault : Option NodeFault) (old new : Disks K) → (fault ≡ Some node_fault.Device → HasFailed k old new) → ((fault ≡ Some node_fault.Device → ⊥) → HasNotFailed k old new) → are_two new ≡ are_two old
-kind-after k None old new device no_device = same_kind k old new (no_device (λ e. cc e))
-kind-after k (Some node_fault.Memory) old new device no_device = same_kind k old new (no_device (λ e. cc e))
-kind-after k (Some node_fault.Failed) old new device no_device = same_kind k old new (no_device (λ e. cc e))
-kind-after k (Some node_fault.Device) old new device no_device = same_kind_failed k old new (device refl)
 
 -- ---- how often the disk has failed
 

@@ -3,6 +3,7 @@
 ghost use Rattle.std.specs.Prelude.{◌≡◌, ◌≢◌, false, Err, IfOk, None, OnErr, OnOk, Some, ℕ};
 ghost use Rattle.journal_single.specs.Disk.{counted};
 ghost use Rattle.journal_books.specs.declared.disks.Disks.TheVariants.{One};
+ghost use Rattle.journal_books.specs.Books.{are_two};
 ghost use Rattle.simplex_member.specs.declared.action.Reply.{Reply};
 ghost use Rattle.simplex_member.specs.declared.fault.IoFault.TheVariants as fault;
 ghost use Rattle.simplex_member.specs.Setup.{setup_of};
@@ -57,6 +58,7 @@ pub fn open_io<S: Scheme<D> + Drop, L: Elector<S, D>, D: Digest, K: Disk, W: Sin
     ensures opening { IsOpening S.Scheme L.Elector K.Disk (⟦<S as Speaks<D>>⟧.formats (S.size scheme.value))
         (setup_of S.Scheme L.Elector config scheme.value elector) ⟦<S as Speaks<D>>⟧.readable config scheme.value (One disk) now
         (λ r. disks_of r.0) (λ r. r.0) (λ r. One r.1) result }
+    ensures over_one { IfOk result (λ r. are_two (disks_of r.0) ≡ false) }
 {
     match Node::open(alloc, config, scheme, elector, disk, now) {
         Ok((node, actions)) => {

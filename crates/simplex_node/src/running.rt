@@ -1,7 +1,7 @@
 //! A node over a list of events.
 
 ghost use Rattle.std.specs.Prelude.{◌≡◌, ◌≢◌, [], false, true, Some, IfOk, IsSome, OnErr};
-ghost use Rattle.journal_books.specs.Books.{HasFailed, HasNotFailed};
+ghost use Rattle.journal_books.specs.Books.{HasFailed, HasNotFailed, are_two};
 ghost use Rattle.simplex_member.specs.declared.fault.NodeFault.TheVariants.{Device, Failed};
 ghost use Rattle.node_steps.specs.Keeps.{AtOwn, book_of, disks_of, has_failed};
 ghost use Rattle.simplex_node.specs.Running.{IsPassed, LeavesAtMost, RunFails, RunsTo};
@@ -39,6 +39,7 @@ pub fn run<S: Scheme<D> + Drop, L: Elector<S, D>, D: Digest, K: Disk>(
     // A disk has failed once more exactly where that is told.
     ensures device { IfOk result (λ r. r.fault ≡ Some Device → HasFailed K.Disk (disks_of node.old) (disks_of node.new)) }
     ensures no_device { IfOk result (λ r. r.fault ≢ Some Device → HasNotFailed K.Disk (disks_of node.old) (disks_of node.new)) }
+    ensures as_many { are_two (disks_of node.new) ≡ are_two (disks_of node.old) }
 
     // A crash at any moment of the call leaves the record at a point of the step over one of the events.
     ensures any_moment { AtOwn S.Scheme L.Elector K.Disk ⟦<S as Speaks<D>>⟧.formats node.old

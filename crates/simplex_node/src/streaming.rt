@@ -2,7 +2,7 @@
 
 ghost use Rattle.std.specs.Prelude.{◌≡◌, ◌≢◌, false, true, Err};
 ghost use Rattle.journal_single.specs.Disk.{counted};
-ghost use Rattle.journal_books.specs.Books.{HasFailed, HasNotFailed};
+ghost use Rattle.journal_books.specs.Books.{HasFailed, HasNotFailed, are_two};
 ghost use Rattle.simplex_member.specs.declared.fault.IoFault.TheVariants as fault;
 ghost use Rattle.simplex_member.specs.declared.fault.NodeFault.{NodeFault};
 ghost use Rattle.simplex_member.specs.declared.fault.NodeFault.TheVariants.{Device};
@@ -51,6 +51,7 @@ pub fn run_io<S: Scheme<D> + Drop, L: Elector<S, D>, D: Digest, K: Disk, R: Sour
     // A disk has failed once more exactly where that is told.
     ensures device { result ≡ Err (fault.Node Device) → HasFailed K.Disk (disks_of node.old) (disks_of node.new) }
     ensures no_device { result ≢ Err (fault.Node Device) → HasNotFailed K.Disk (disks_of node.old) (disks_of node.new) }
+    ensures as_many { are_two (disks_of node.new) ≡ are_two (disks_of node.old) }
 
     // A crash at any moment of the call leaves the record at a point of the step over one of the events that were read.
     ensures any_moment { AtOwn S.Scheme L.Elector K.Disk ⟦<S as Speaks<D>>⟧.formats node.old (λ f s h.

@@ -49,7 +49,7 @@ where
     /// Closes the node that is open.
     fn close(&mut self) {
         if let Some(node) = self.node.take() {
-            self.disk = Some(T::close(node));
+            self.disk = T::close(node);
         }
     }
 

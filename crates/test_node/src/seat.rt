@@ -80,6 +80,6 @@ pub trait Seat<C: Drop, S: Drop, K, N, E: Drop, A: Drop, R: Drop> {
     /// Whether a step has failed.
     fn is_failed(node: &N) -> bool;
 
-    /// Gives the disk back.
-    fn close(node: N) -> K;
+    /// Gives the disk back, where it stands on one.
+    fn close(node: N) -> Option<K>;
 }

@@ -1,7 +1,7 @@
-use Rattle.std.proofs.Common.{ℕ, List, Some, ap, sym, subst, ◌∙◌}
+use Rattle.std.proofs.Common.{ℕ, List, Some, sym, subst, ◌∙◌}
 use Rattle.journal_single.specs.Record.{Reads}
 use Rattle.journal_single.specs.Total.{reads_any}
-use Rattle.journal_books.specs.Books.{HasNotFailed, are_two}
+use Rattle.journal_books.specs.Books.{HasNotFailed}
 use Rattle.journal_books.specs.BooksLaws.{same_not_failed}
 use Rattle.simplex_member.specs.Recorded.{record_of}
 use Rattle.simplex_member.specs.declared.action.Reply.{Reply}
@@ -12,7 +12,7 @@ use Rattle.node_steps.specs.Keeps.{NodeKeeps, book_of, disks_of}
 use Rattle.simplex_node.specs.Living.{IsLeftByTurns}
 use Rattle.simplex_node.specs.Running.{IsPassed}
 use Rattle.simplex_node.proofs.Lived.{turns-none}
-use Rattle.simplex_node.proofs.Told.{failed-on, kind-after, not-failed-on, on-disk, ran-turns, steps-failures}
+use Rattle.simplex_node.proofs.Told.{failed-on, not-failed-on, on-disk, ran-turns, steps-failures}
 use Rattle.simplex_node.proofs.living.live_on.Goals as goal
 
 pub returns-in-Ok : goal.returns-in-Ok
@@ -46,8 +46,7 @@ returns-in-Err g c = record {
 
 -- it stands on one disk as before
 pub close-requires : goal.close-requires
-close-requires g c = kind-after g.K.Disk c.in-Ok.answers.fault (disks_of c.args.node) (disks_of c.run.new.node) c.in-Ok.ensures.device c.in-Ok.ensures.no_device ∙ c.requires
+close-requires g c = c.run.ensures.as_many ∙ c.requires
 
 pub close-in-Err-requires : goal.close-in-Err-requires
-close-in-Err-requires g c =
-    ap (λ (node : Node g.row.S.Denot g.row.L.Denot g.row.D.Denot g.row.K.Denot g.row.S-PublicKey.Denot g.row.S-Signature.Denot g.row.S-Certificate.Denot). are_two (disks_of node)) c.in-Err.ensures.no_room ∙ c.requires
+close-in-Err-requires g c = c.run.ensures.as_many ∙ c.requires
