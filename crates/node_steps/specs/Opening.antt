@@ -1,5 +1,5 @@
 -- How a record is opened: what is wrong with the arguments, and what comes of it.
-use Rattle.std.specs.Prelude.{◌≡◌, ◌≢◌, ◌<◌, ◌⊎◌, ◌++◌, ℕ, List, [], ◌∷◌, map, Option, Some, None, Result, IfOk, IfErr, IfSome, OnOk, false, ⊤}
+use Rattle.std.specs.Prelude.{◌≡◌, ◌≢◌, ◌<◌, ◌⊎◌, ◌++◌, ℕ, List, [], ◌∷◌, map, Option, Some, None, IfSome, ⊤}
 use Rattle.types_core.specs.declared.scheme.Scheme.{Ghosts}
 use Rattle.messages_certificates.specs.declared.artifact.Artifact.{Artifact}
 use Rattle.types_terms.specs.declared.elector.Elector as elector
@@ -81,22 +81,24 @@ module _ {S L D P G C K : Type 0} (g : Ghosts S D P G C) (e : elector.Ghosts L S
     pub opens : Opens g f s now found actions end
     pub keeps : NodeKeeps g e k f s node end
 
-module _ {S L D P G C K : Type 0} (g : Ghosts S D P G C) (e : elector.Ghosts L S D P G C) (k : disk.Ghosts K) where
-  -- what an opening promises of its fault, and of a crash meanwhile, whatever it hands back beside the node: by the setup of each index,
-  -- by the disks that the node stands on, and by the fault with the disks that are given back
-  pub record IsOpening {A F : Type 0} (f : Formats S D P G C) (setup : ℕ → Setup S D C) (Readable : Artifact S D P G C → Type 0)
-      (config : Config D) (scheme : S) (on : Disks K) (now : ℕ) (left : A → Disks K) (why : F → OpenFault) (back : F → Disks K) (answer : Result A F) : Type 0 where
-    pub told_early : IfErr answer (λ r. IfSome (early (why r)) (λ x. IsFirst (open_tests g (setup 0) config now) (Some x) × (back r ≡ on)))
-    pub none_early : OnOk answer (IsFirst (open_tests g (setup 0) config now) None)
-    pub told_later : IfErr answer (λ r. early (why r) ≡ None → IsFirst (open_tests g (setup 0) config now) None)
-    pub foreign : IfErr answer (λ r. (place : ℕ) → why r ≡ open_fault.Foreign place → k.keeps → IsForeignOn k Readable f.artifact on place)
-    pub contradiction : IfErr answer (λ r. (position index : ℕ) → g.own scheme ≡ Some index → why r ≡ open_fault.Contradiction position
-        → IsContradiction k f.artifact Readable (g.attests scheme) (g.certifies scheme) (owner_of (setup index)) on position)
-    pub untouched : IfErr answer (λ r. IsOfRecord (why r) → k.keeps → AreLeftAsTheyWere k on (back r))
-    pub device : IfErr answer (λ r. why r ≡ open_fault.Device → HasFailed k on (back r))
-    pub no_device : IfErr answer (λ r. why r ≢ open_fault.Device → HasNotFailed k on (back r))
-    pub no_fault : IfOk answer (λ r. HasNotFailed k on (left r))
-    pub any_moment : IfOk answer (λ r. (index : ℕ) → g.own scheme ≡ Some index → k.keeps
-        → Leave k on (left r) (MayBeLeftOpen g e k f (setup index) Readable on now))
-    pub any_moment_of_a_fault : IfErr answer (λ r. (index : ℕ) → g.own scheme ≡ Some index → k.keeps
-        → Leave k on (back r) (MayBeLeftOpen g e k f (setup index) Readable on now))
+-- what an opening promises, by the setup of each index
+module _ {S L D P G C K : Type 0} (g : Ghosts S D P G C) (e : elector.Ghosts L S D P G C) (k : disk.Ghosts K) (f : Formats S D P G C) (setup : ℕ → Setup S D C)
+    (Readable : Artifact S D P G C → Type 0) (config : Config D) (scheme : S) (on : Disks K) (now : ℕ) where
+  -- of the disks under a node that it hands back
+  pub record HasOpened (left : Disks K) : Type 0 where
+    pub none_early : IsFirst (open_tests g (setup 0) config now) None
+    pub no_fault : HasNotFailed k on left
+    pub any_moment : (index : ℕ) → g.own scheme ≡ Some index → k.keeps → Leave k on left (MayBeLeftOpen g e k f (setup index) Readable on now)
+
+  -- of its fault, and of the disks that it gives back with that: what is wrong with the arguments is told first, the first that applies,
+  -- and no disk was touched; else what is read there that is no lawful record, and each disk is as it was; or that a disk failed
+  pub record IsUnopened (why : OpenFault) (back : Disks K) : Type 0 where
+    pub told_early : IfSome (early why) (λ x. IsFirst (open_tests g (setup 0) config now) (Some x) × (back ≡ on))
+    pub told_later : early why ≡ None → IsFirst (open_tests g (setup 0) config now) None
+    pub foreign : (place : ℕ) → why ≡ open_fault.Foreign place → k.keeps → IsForeignOn k Readable f.artifact on place
+    pub contradiction : (position index : ℕ) → g.own scheme ≡ Some index → why ≡ open_fault.Contradiction position
+        → IsContradiction k f.artifact Readable (g.attests scheme) (g.certifies scheme) (owner_of (setup index)) on position
+    pub untouched : IsOfRecord why → k.keeps → AreLeftAsTheyWere k on back
+    pub device : why ≡ open_fault.Device → HasFailed k on back
+    pub no_device : why ≢ open_fault.Device → HasNotFailed k on back
+    pub any_moment : (index : ℕ) → g.own scheme ≡ Some index → k.keeps → Leave k on back (MayBeLeftOpen g e k f (setup index) Readable on now)

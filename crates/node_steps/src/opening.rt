@@ -1,6 +1,6 @@
 //! Opening a record.
 
-ghost use Rattle.std.specs.Prelude.{◌≡◌, ◌≢◌, ◌<◌, ◌↔◌, ◌⊎◌, ℕ, IsTrue, [], None, Some, IfOk, IfErr, IfSome, OnOk, false, max, unwrap_or};
+ghost use Rattle.std.specs.Prelude.{◌≡◌, ◌≢◌, ◌<◌, ◌↔◌, ◌⊎◌, ℕ, IsTrue, [], None, Some, IfOk, IfErr, IfSome, OnOk, false, true, max, unwrap_or};
 ghost use Rattle.messages_certificates.specs.Artifact.{artifact_spelling};
 ghost use Rattle.journal_books.specs.declared.disks.Disks.{Disks};
 ghost use Rattle.journal_books.specs.declared.disks.Disks.TheVariants.{One, Two};
@@ -13,7 +13,7 @@ ghost use Rattle.simplex_member.specs.First.{IsFirst};
 ghost use Rattle.simplex_member.specs.Setup.{Setup, IsInTime, owner_of, setup_of, silence_of};
 ghost use Rattle.node_core.specs.SettingUp.{EndsActs, IsSetUp};
 ghost use Rattle.node_steps.specs.Keeps.{book_of, disks_of};
-ghost use Rattle.node_steps.specs.Opening.{IsOfRecord, IsOpen, IsOpenAndSettled, MayBeLeftOpen, MayGoThrough, early, open_tests};
+ghost use Rattle.node_steps.specs.Opening.{HasOpened, IsOfRecord, IsOpen, IsOpenAndSettled, IsUnopened, MayBeLeftOpen, MayGoThrough, early, open_tests};
 
 use crate::node::Node;
 use journal_books::{Disks, disks_read_as_one_record};
@@ -57,49 +57,15 @@ impl<S: Scheme<D> + Drop, L: Elector<S, D>, D: Digest, K: Disk> Node<S, L, D, K>
             (⟦<S as Speaks<D>>⟧.formats (S.size scheme.value)) (setup_of S.Scheme L.Elector config scheme.value elector index)
             ⟦<S as Speaks<D>>⟧.readable (One disk) now r.0 r.1.items) }
 
-        // What is wrong with the arguments is told first, the first that applies, and no disk was touched.
-        ensures early { IfErr result (λ r.
-            IfSome (early r.0)
-            (λ x. IsFirst (open_tests S.Scheme (setup_of S.Scheme L.Elector config scheme.value elector 0) config now) (Some x) × ((One r.1) ≡ (One disk)))) }
-        ensures no_early { OnOk result (IsFirst (open_tests S.Scheme (setup_of S.Scheme L.Elector config scheme.value elector 0) config now) None) }
-        ensures later { IfErr result
-            (λ r. early r.0 ≡ None → IsFirst (open_tests S.Scheme (setup_of S.Scheme L.Elector config scheme.value elector 0) config now) None) }
-
-        // The other faults but want of memory say what is read, or that a disk failed once more, exactly where that is told.
-        ensures foreign { IfErr result (λ r.
-            (place : ℕ)
-            → r.0 ≡ open_fault.Foreign place
-            → K.keeps
-            → IsForeignOn K.Disk ⟦<S as Speaks<D>>⟧.readable ⟦<Artifact<S, D> as Write>⟧.spelling (One disk) place) }
-        ensures contradiction { IfErr result (λ r.
-            (position index : ℕ)
-            → S.own scheme.value ≡ Some index
-            → r.0 ≡ open_fault.Contradiction position
-            → IsContradiction K.Disk (artifact_spelling D.spelling S.Signature.spelling S.Certificate.spelling) ⟦<S as Speaks<D>>⟧.readable
-            (S.attests scheme.value) (S.certifies scheme.value) (owner_of (setup_of S.Scheme L.Elector config scheme.value elector index)) (One disk)
-            position) }
-        ensures device { IfErr result (λ r. r.0 ≡ open_fault.Device → HasFailed K.Disk (One disk) (One r.1)) }
-        ensures no_device { IfErr result (λ r. r.0 ≢ open_fault.Device → HasNotFailed K.Disk (One disk) (One r.1)) }
-        ensures no_fault { IfOk result (λ r. HasNotFailed K.Disk (One disk) (disks_of r.0)) }
-
-        // Disks of a record that is refused for what stands in it are left as they were: nothing was written or cut.
-        ensures untouched { IfErr result (λ r. IsOfRecord r.0 → K.keeps → AreLeftAsTheyWere K.Disk (One disk) (One r.1)) }
-
-        // What may be read after a crash at any moment of the call.
-        ensures any_moment { IfOk result (λ r.
-            (index : ℕ)
-            → S.own scheme.value ≡ Some index
-            → K.keeps
-            → Leave K.Disk (One disk) (disks_of r.0) (MayBeLeftOpen S.Scheme L.Elector K.Disk
-            (⟦<S as Speaks<D>>⟧.formats (S.size scheme.value)) (setup_of S.Scheme L.Elector config scheme.value elector index)
-            ⟦<S as Speaks<D>>⟧.readable (One disk) now)) }
-        ensures any_moment_of_a_fault { IfErr result (λ r.
-            (index : ℕ)
-            → S.own scheme.value ≡ Some index
-            → K.keeps
-            → Leave K.Disk (One disk) (One r.1) (MayBeLeftOpen S.Scheme L.Elector K.Disk
-            (⟦<S as Speaks<D>>⟧.formats (S.size scheme.value)) (setup_of S.Scheme L.Elector config scheme.value elector index)
-            ⟦<S as Speaks<D>>⟧.readable (One disk) now)) }
+        // Each fault is told for its cause, a record that is refused is left as it was, and a crash meanwhile leaves no other.
+        ensures has_opened { IfOk result (λ r.
+            HasOpened S.Scheme L.Elector K.Disk (⟦<S as Speaks<D>>⟧.formats (S.size scheme.value))
+            (setup_of S.Scheme L.Elector config scheme.value elector) ⟦<S as Speaks<D>>⟧.readable config scheme.value (One disk) now
+            (disks_of r.0)) }
+        ensures unopened { IfErr result (λ r.
+            IsUnopened S.Scheme L.Elector K.Disk (⟦<S as Speaks<D>>⟧.formats (S.size scheme.value))
+            (setup_of S.Scheme L.Elector config scheme.value elector) ⟦<S as Speaks<D>>⟧.readable config scheme.value (One disk) now
+            r.0 (One r.1)) }
         ensures over_one { IfOk result (λ r. are_two (disks_of r.0) ≡ false) }
     {
         match Self::open_on(alloc, config, scheme, elector, Disks::One(disk), now) {
@@ -124,56 +90,18 @@ impl<S: Scheme<D> + Drop, L: Elector<S, D>, D: Digest, K: Disk> Node<S, L, D, K>
         now: u64,
     ) -> Result<(Self, Vec<Action<S, D>>), (OpenFault, K, K)>
         requires { L.built_for elector (S.size scheme.value) }
-
-        // What was found was gone through, and the node stands behind it; the actions are what that hands out.
         ensures opened { IfOk result (λ r.
             (index : ℕ) × (S.own scheme.value ≡ Some index) × IsOpenAndSettled S.Scheme L.Elector K.Disk
             (⟦<S as Speaks<D>>⟧.formats (S.size scheme.value)) (setup_of S.Scheme L.Elector config scheme.value elector index)
             ⟦<S as Speaks<D>>⟧.readable (Two first second) now r.0 r.1.items) }
-
-        // What is wrong with the arguments is told first, the first that applies, and no disk was touched.
-        ensures early { IfErr result (λ r.
-            IfSome (early r.0)
-            (λ x. IsFirst (open_tests S.Scheme (setup_of S.Scheme L.Elector config scheme.value elector 0) config now) (Some x) × ((Two r.1 r.2) ≡ (Two first second)))) }
-        ensures no_early { OnOk result (IsFirst (open_tests S.Scheme (setup_of S.Scheme L.Elector config scheme.value elector 0) config now) None) }
-        ensures later { IfErr result
-            (λ r. early r.0 ≡ None → IsFirst (open_tests S.Scheme (setup_of S.Scheme L.Elector config scheme.value elector 0) config now) None) }
-
-        // The other faults but want of memory say what is read, or that a disk failed once more, exactly where that is told.
-        ensures foreign { IfErr result (λ r.
-            (place : ℕ)
-            → r.0 ≡ open_fault.Foreign place
-            → K.keeps
-            → IsForeignOn K.Disk ⟦<S as Speaks<D>>⟧.readable ⟦<Artifact<S, D> as Write>⟧.spelling (Two first second) place) }
-        ensures contradiction { IfErr result (λ r.
-            (position index : ℕ)
-            → S.own scheme.value ≡ Some index
-            → r.0 ≡ open_fault.Contradiction position
-            → IsContradiction K.Disk (artifact_spelling D.spelling S.Signature.spelling S.Certificate.spelling) ⟦<S as Speaks<D>>⟧.readable
-            (S.attests scheme.value) (S.certifies scheme.value) (owner_of (setup_of S.Scheme L.Elector config scheme.value elector index)) (Two first second)
-            position) }
-        ensures device { IfErr result (λ r. r.0 ≡ open_fault.Device → HasFailed K.Disk (Two first second) (Two r.1 r.2)) }
-        ensures no_device { IfErr result (λ r. r.0 ≢ open_fault.Device → HasNotFailed K.Disk (Two first second) (Two r.1 r.2)) }
-        ensures no_fault { IfOk result (λ r. HasNotFailed K.Disk (Two first second) (disks_of r.0)) }
-
-        // Disks of a record that is refused for what stands in it are left as they were: nothing was written or cut.
-        ensures untouched { IfErr result (λ r. IsOfRecord r.0 → K.keeps → AreLeftAsTheyWere K.Disk (Two first second) (Two r.1 r.2)) }
-
-        // What may be read after a crash at any moment of the call.
-        ensures any_moment { IfOk result (λ r.
-            (index : ℕ)
-            → S.own scheme.value ≡ Some index
-            → K.keeps
-            → Leave K.Disk (Two first second) (disks_of r.0) (MayBeLeftOpen S.Scheme L.Elector K.Disk
-            (⟦<S as Speaks<D>>⟧.formats (S.size scheme.value)) (setup_of S.Scheme L.Elector config scheme.value elector index)
-            ⟦<S as Speaks<D>>⟧.readable (Two first second) now)) }
-        ensures any_moment_of_a_fault { IfErr result (λ r.
-            (index : ℕ)
-            → S.own scheme.value ≡ Some index
-            → K.keeps
-            → Leave K.Disk (Two first second) (Two r.1 r.2) (MayBeLeftOpen S.Scheme L.Elector K.Disk
-            (⟦<S as Speaks<D>>⟧.formats (S.size scheme.value)) (setup_of S.Scheme L.Elector config scheme.value elector index)
-            ⟦<S as Speaks<D>>⟧.readable (Two first second) now)) }
+        ensures has_opened { IfOk result (λ r.
+            HasOpened S.Scheme L.Elector K.Disk (⟦<S as Speaks<D>>⟧.formats (S.size scheme.value))
+            (setup_of S.Scheme L.Elector config scheme.value elector) ⟦<S as Speaks<D>>⟧.readable config scheme.value (Two first second) now
+            (disks_of r.0)) }
+        ensures unopened { IfErr result (λ r.
+            IsUnopened S.Scheme L.Elector K.Disk (⟦<S as Speaks<D>>⟧.formats (S.size scheme.value))
+            (setup_of S.Scheme L.Elector config scheme.value elector) ⟦<S as Speaks<D>>⟧.readable config scheme.value (Two first second) now
+            r.0 (Two r.1 r.2)) }
         ensures over_two { IfOk result (λ r. are_two (disks_of r.0) ≡ true) }
     {
         match Self::open_on(

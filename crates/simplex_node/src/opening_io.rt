@@ -1,6 +1,6 @@
 //! Opening a node's record over a stream.
 
-ghost use Rattle.std.specs.Prelude.{◌≡◌, ◌≢◌, false, Err, IfOk, None, OnErr, OnOk, Some, ℕ};
+ghost use Rattle.std.specs.Prelude.{◌≡◌, ◌≢◌, false, Err, IfErr, IfOk, None, OnErr, OnOk, Some, ℕ};
 ghost use Rattle.journal_single.specs.Disk.{counted};
 ghost use Rattle.journal_books.specs.declared.disks.Disks.TheVariants.{One};
 ghost use Rattle.journal_books.specs.Books.{are_two};
@@ -8,7 +8,7 @@ ghost use Rattle.simplex_member.specs.declared.action.Reply.{Reply};
 ghost use Rattle.simplex_member.specs.declared.fault.IoFault.TheVariants as fault;
 ghost use Rattle.simplex_member.specs.Setup.{setup_of};
 ghost use Rattle.node_steps.specs.Keeps.{disks_of};
-ghost use Rattle.node_steps.specs.Opening.{IsOpenAndSettled, IsOpening};
+ghost use Rattle.node_steps.specs.Opening.{HasOpened, IsOpenAndSettled, IsUnopened};
 ghost use Rattle.simplex_node.specs.Running.{IsWritten};
 ghost use Rattle.node_wire.specs.Streaming.{spelled};
 
@@ -55,9 +55,14 @@ pub fn open_io<S: Scheme<D> + Drop, L: Elector<S, D>, D: Digest, K: Disk, W: Sin
     ensures flushed { IfOk result (λ r. OnOk r.1 (W.is_flushed writer.new)) }
 
     // Of its faults, and of a crash meanwhile, all that [`Node::open`] promises.
-    ensures opening { IsOpening S.Scheme L.Elector K.Disk (⟦<S as Speaks<D>>⟧.formats (S.size scheme.value))
+    ensures has_opened { IfOk result (λ r.
+        HasOpened S.Scheme L.Elector K.Disk (⟦<S as Speaks<D>>⟧.formats (S.size scheme.value))
         (setup_of S.Scheme L.Elector config scheme.value elector) ⟦<S as Speaks<D>>⟧.readable config scheme.value (One disk) now
-        (λ r. disks_of r.0) (λ r. r.0) (λ r. One r.1) result }
+        (disks_of r.0)) }
+    ensures unopened { IfErr result (λ r.
+        IsUnopened S.Scheme L.Elector K.Disk (⟦<S as Speaks<D>>⟧.formats (S.size scheme.value))
+        (setup_of S.Scheme L.Elector config scheme.value elector) ⟦<S as Speaks<D>>⟧.readable config scheme.value (One disk) now
+        r.0 (One r.1)) }
     ensures over_one { IfOk result (λ r. are_two (disks_of r.0) ≡ false) }
 {
     match Node::open(alloc, config, scheme, elector, disk, now) {

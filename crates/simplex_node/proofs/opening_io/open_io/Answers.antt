@@ -5,19 +5,3 @@ pub returns-in-Ok-clause-opened : goal.returns-in-Ok-clause-opened
 returns-in-Ok-clause-opened g c =
     let opened = c.in-Ok.ensures.opened in
     (opened.0, record { refused = None; actions = c.in-Ok.actions }, opened.1, refl, record { whole = c.write_out-written.ensures.whole; front = c.write_out-written.ensures.front; faults = c.write_out-written.ensures.faults }, opened.2)
-
--- a node is handed back: of faults there is nothing to say
-pub returns-in-Ok-clause-opening : goal.returns-in-Ok-clause-opening
-returns-in-Ok-clause-opening g c = record {
-  told_early = tt;
-  none_early = c.in-Ok.ensures.no_early;
-  told_later = tt;
-  foreign = tt;
-  contradiction = tt;
-  untouched = tt;
-  device = tt;
-  no_device = tt;
-  no_fault = c.in-Ok.ensures.no_fault;
-  any_moment = c.in-Ok.ensures.any_moment;
-  any_moment_of_a_fault = tt;
-}
