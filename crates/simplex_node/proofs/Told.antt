@@ -230,10 +230,13 @@ module _ {S L D P G C K : Type 0} (g : Ghosts S D P G C) (e : elector.Ghosts L S
   ran-turns h events replies None is runs image left = turns-whole g f s h events replies runs.end None image runs.run (reads-closed runs.end runs.keeps image left)
   ran-turns h events replies (Some why) is (answered, event, behind, split, fails) image left =
       turns-cut g f s h events answered behind event replies fails.runs.end why image split fails.runs.run
-      (let any = reads_any image in
-      (any.0, any.1, left_last k (IsReached g f s fails.runs.end event) (disks_of fails.before) (disks_of node) any.0
-      (book_leaves k (IsReached g f s fails.runs.end event) f.artifact (record_of fails.runs.end) (book_of fails.before) (book_of node) (fails.runs.keeps.core.ledger.journal keeps) (fails.any_moment keeps))
-      (subst (λ (d : Disks K). MayBeRead k d any.0) (sym is) (image, left, any.1))))
+      (let any = reads_any image in (
+        any.0,
+        any.1,
+        left_last k (IsReached g f s fails.runs.end event) (disks_of fails.before) (disks_of node) any.0
+            (book_leaves k (IsReached g f s fails.runs.end event) f.artifact (record_of fails.runs.end) (book_of fails.before) (book_of node) (fails.runs.keeps.core.ledger.journal keeps) (fails.any_moment keeps))
+            (subst (λ (d : Disks K). MayBeRead k d any.0) (sym is) (image, left, any.1)),
+      ))
 
 -- ---- one disk
 

@@ -133,9 +133,7 @@ impl<S: Committee, L: Turns<S>, K: Medium> Seat<S> for Keeper<S, L, K> {
 }
 
 /// The disk that a node stands on, where that is one.
-fn disk_of<S: Committee, L: Turns<S>, K: Medium>(
-    node: Node<S, L, Sha256Digest, K>,
-) -> Option<K> {
+fn disk_of<S: Committee, L: Turns<S>, K: Medium>(node: Node<S, L, Sha256Digest, K>) -> Option<K> {
     if node.is_pair() {
         drop(node.into_disks());
         return None;
