@@ -127,7 +127,7 @@ fn live_on<S: Scheme<D> + Drop, L: Elector<S, D>, D: Digest, K: Disk>(
     node: Node<S, L, D, K>,
     events: Vec<Event<D>>,
 ) -> (Answers<S, D>, K)
-    requires over_one { are_two (disks_of node) ≡ false }
+    requires { are_two (disks_of node) ≡ false }
     ensures turns { AtOwn S.Scheme L.Elector K.Disk ⟦<S as Speaks<D>>⟧.formats node
         (λ f s h. K.keeps → MayLeaveOnly (K.calls result.1) (IsLeftByTurns S.Scheme f s h events.items result.0.replies.items result.0.fault)) }
     ensures any_moment { AtOwn S.Scheme L.Elector K.Disk ⟦<S as Speaks<D>>⟧.formats node (λ f s h.

@@ -3,7 +3,7 @@ use Rattle.std.proofs.lemmas.Result.{IfErr-weaker, IfOk-weaker}
 use Rattle.journal_books.specs.declared.disks.Disks.{Disks}
 use Rattle.journal_books.specs.Books as words
 use Rattle.journal_books.specs.Books.{HasFailed, HasNotFailed, Leave, LeaveSince, MayBeRead}
-use Rattle.journal_books.specs.BooksLaws.{failed_then, leave_weaker, not_failed_then, since_leaves}
+use Rattle.journal_books.specs.BooksLaws.{failed_then, leave_weaker, not_failed_then, same_not_failed, since_leaves}
 use Rattle.simplex_member.specs.First.{IsFirst}
 use Rattle.simplex_member.specs.Packet.{formats}
 use Rattle.simplex_member.specs.Setup.{IsInTime, setup_of}
@@ -22,6 +22,9 @@ returns-in-Err-clause-early g c =
 
 pub returns-in-Err-clause-any_moment_of_a_fault : goal.returns-in-Err-clause-any_moment_of_a_fault
 returns-in-Err-clause-any_moment_of_a_fault g c = λ index own keeps. leave_weaker g.K.Disk _ _ (λ read before. inl before) _ _ (c.disks_read_as_one_record.ensures.untouched c.args.disks)
+
+pub returns-in-Err-clause-no_device : goal.returns-in-Err-clause-no_device
+returns-in-Err-clause-no_device g c = λ other. same_not_failed g.K.Disk c.args.disks
 
 -- a fault that is of the record is told where the ledger isn't opened, and nowhere else
 pub returns-in-Err-clause-untouched : goal.returns-in-Err-clause-untouched
