@@ -16,15 +16,15 @@ pub returns-in-Ok-clause-has_opened : goal.returns-in-Ok-clause-has_opened
 returns-in-Ok-clause-has_opened g c = record { none_early = c.in-Ok.ensures.no_early; no_fault = c.in-Ok.ensures.no_fault; any_moment = c.in-Ok.ensures.any_moment }
 
 -- as many disks are given back
-pub two-requires : goal.two-requires
-two-requires g c = as_many_back g.K.Disk c.in-Err.fault (Two c.args.first c.args.second) c.in-Err.disks c.in-Err.ensures.device c.in-Err.ensures.no_device
+pub two-first-requires : goal.two-first-requires
+two-first-requires g c = as_many_back g.K.Disk c.in-Err.fault (Two c.args.first c.args.second) c.in-Err.disks c.in-Err.ensures.device c.in-Err.ensures.no_device
 
 pub returns-in-Err-clause-unopened : goal.returns-in-Err-clause-unopened
 returns-in-Err-clause-unopened g c =
     let told = c.in-Err.ensures in
     subst (λ (back : Disks g.row.K.Denot). IsUnopened g.S.Scheme g.L.Elector g.K.Disk
     (formats {S = g.row.S.Denot} {P = g.row.S-PublicKey.Denot} g.D.PartialEq.eq g.D.Write.spelling g.S.Signature.Write.spelling g.S.Certificate.Write.spelling g.D.Read.reading g.S.Signature.Read.reading g.S.Certificate.Read.reading (g.S.Scheme.size c.args.scheme.value))
-    (setup_of g.S.Scheme g.L.Elector c.args.config c.args.scheme.value c.args.elector) _ c.args.config c.args.scheme.value (Two c.args.first c.args.second) c.args.now c.in-Err.fault back) c.two.ensures
+    (setup_of g.S.Scheme g.L.Elector c.args.config c.args.scheme.value c.args.elector) _ c.args.config c.args.scheme.value (Two c.args.first c.args.second) c.args.now c.in-Err.fault back) c.two-first.ensures
     (record {
       told_early = told.early;
       told_later = told.later;
