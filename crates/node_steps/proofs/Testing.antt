@@ -9,7 +9,7 @@ use Rattle.simplex_member.specs.declared.fault.OpenFault.{OpenFault}
 use Rattle.simplex_member.specs.declared.fault.OpenFault.TheVariants as open_fault
 use Rattle.simplex_member.specs.First.{IsFirst}
 use Rattle.simplex_member.specs.Setup.{Setup, IsInTime}
-use Rattle.node_steps.specs.Opening.{HasManyOptimistic, early, open_tests}
+use Rattle.node_steps.specs.Opening.{early, open_tests}
 
 module _ {S D P G C : Type 0} (g : Ghosts S D P G C) (s : Setup S D C) (c : Config D) (now : ℕ) (key : (g.own s.voter.scheme ≡ None) → ⊥) where
   -- the first fault of the configuration is the first of all
@@ -95,7 +95,7 @@ module _ {S D P G C : Type 0} (g : Ghosts S D P G C) (s : Setup S D C) (c : Conf
 
   -- where the configuration is good, the last tests decide
   pub behind-config : ((x : ConfigFault) → config.Applies c (g.size s.voter.scheme) x → ⊥) → (answer : Option OpenFault)
-      → IsFirst ((open_fault.MomentTooLate, (IsInTime s now → ⊥)) ∷ (open_fault.TooManyOptimistic, HasManyOptimistic s) ∷ []) answer
+      → IsFirst ((open_fault.MomentTooLate, (IsInTime s now → ⊥)) ∷ (open_fault.TooManyOptimistic, 1000 < s.voter.optimistic_views) ∷ []) answer
       → IsFirst (open_tests g s c now) answer
   behind-config good answer last =
       inr (

@@ -45,10 +45,6 @@ IsOfRecord x = ⊥
 abbrev pub MayBeLeft : {K : Type 0} → disk.Ghosts K → K → List ℕ → Type 0
 MayBeLeft k on image = IsReopened (k.calls on) image
 
--- more views of a term are optimistic than a step may go over. A record, so that no prover counts up to the number
-pub record HasManyOptimistic {S D C : Type 0} (s : Setup S D C) : Type 0 where
-  pub above : 1000 < s.voter.optimistic_views
-
 module _ {S D P G C : Type 0} (g : Ghosts S D P G C) (s : Setup S D C) where
   -- the tests of an opening by its arguments, in order
   abbrev pub open_tests : Config D → ℕ → List (OpenFault × Type 0)
@@ -57,7 +53,7 @@ module _ {S D P G C : Type 0} (g : Ghosts S D P G C) (s : Setup S D C) where
       ∷ map (λ x. (open_fault.Config x, Applies config (g.size s.voter.scheme) x))
       (fault.NoParticipants ∷ fault.LeaderTimeoutZero ∷ fault.CertificationNotAboveLeader ∷ fault.SkipNotAboveCertification ∷ fault.SkipNotAboveRetry
       ∷ fault.RetryZero ∷ fault.RetentionZero ∷ fault.TooManyParticipants ∷ [])
-      ++ (open_fault.MomentTooLate, IsInTime s now → ⊥) ∷ (open_fault.TooManyOptimistic, HasManyOptimistic s) ∷ []
+      ++ (open_fault.MomentTooLate, IsInTime s now → ⊥) ∷ (open_fault.TooManyOptimistic, 1000 < s.voter.optimistic_views) ∷ []
 
 module _ {S D P G C K : Type 0} (g : Ghosts S D P G C) (k : disk.Ghosts K) (spelled : Artifact S D P G C → List ℕ)
     (Readable : Artifact S D P G C → Type 0) where

@@ -32,7 +32,7 @@ returns-then-has_many_optimistic-clause-fault g c =
     behind-config g.S.Scheme s c.args.config.now c.args.now (λ none. let own = c.in-Some.ensures.own in cc)
     (subst (λ (m : ℕ). (x : ConfigFault) → config.Applies c.args.config.now m x → ⊥) c.participants.ensures.value c.in-Ok.ensures.good)
     (Some open_fault.TooManyOptimistic)
-    (inr (λ late. late (subst (λ (m : ℕ). c.args.now + m < 2 ^ 64) long (long-enough c.args.now c.longest_timeout.result some c.if-longest_timeout-now.false)), inl (record { above = many }, refl)))
+    (inr (λ late. late (subst (λ (m : ℕ). c.args.now + m < 2 ^ 64) long (long-enough c.args.now c.longest_timeout.result some c.if-longest_timeout-now.false)), inl (many, refl)))
 
 pub returns-clause-good : goal.returns-clause-good
 returns-clause-good g c =
@@ -45,7 +45,7 @@ returns-clause-good g c =
     None
     (inr (
       λ late. late (subst (λ (m : ℕ). c.args.now + m < 2 ^ 64) long (long-enough c.args.now c.longest_timeout.result some c.if-longest_timeout-now.false)),
-      inr (λ many. absurd (cc (few.1 many.above, c.if-has_many_optimistic.false)), refl),
+      inr (λ many. absurd (cc (few.1 many, c.if-has_many_optimistic.false)), refl),
     ))
 
 -- acts end: by the scheme its index is a member's, by the elector members lead, terms have views, and the configuration's retry isn't 0
