@@ -215,6 +215,7 @@ impl Engine {
             early: Early::default(),
         };
         let recorded = recorded::packets(&first.actions, self.sealer.me);
+        // With certificates others' signatures leave.
         self.signatures.sync()?;
         self.reports.remember()?;
         self.carry_out(&mut life, first)?;

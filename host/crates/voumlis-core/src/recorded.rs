@@ -13,15 +13,19 @@ const MOST: usize = 256;
 
 /// The packets, in the order in which they were recorded, of an opening's first actions.
 pub fn packets(first: &[Action], me: u32) -> Vec<(Channel, Vec<u8>)> {
-    let reports: Vec<Report> = first.iter().filter_map(report).collect();
-    let finalized = reports.iter().filter_map(finalization).max().unwrap_or(0);
-    let sent = reports.iter().filter_map(|report| match report {
+    // They tell the whole record, so they are read twice and not kept.
+    let reports = || first.iter().filter_map(report);
+    let finalized = reports()
+        .filter_map(|report| finalization(&report))
+        .max()
+        .unwrap_or(0);
+    let sent = reports().filter_map(|report| match &report {
         Report::Vote(vote) => {
             let is_wanted = vote.attestation.signer == me && report.view() > finalized;
             is_wanted.then(|| (Channel::Votes, vote.bytes()))
         }
         Report::Certificate(certificate) => {
-            let is_wanted = report.view() > finalized || finalization(report) == Some(finalized);
+            let is_wanted = report.view() > finalized || finalization(&report) == Some(finalized);
             is_wanted.then(|| (Channel::Certificates, certificate.bytes()))
         }
         // A verdict is each member's own, and evidence is for those who judge.
