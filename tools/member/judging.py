@@ -37,11 +37,11 @@ from .member import Disagreement, may_be_left, opening, read_record, step
 from .record import bodies, first_refused, record, spelled_record
 from .refusals import refusal_of
 from .scheme import SCHEMES
-from .setup import FORWARDS, Setup
+from .setup import FORWARDS, MOST_OPTIMISTIC, Setup
 from .values import Certificate, Certified, Report, Verdict, Vote
 from .voter import current, last_finalized
 
-NO_KEY, CONFIG, MOMENT_TOO_LATE, FOREIGN, CONTRADICTION, DEVICE, MEMORY = range(1, 8)
+NO_KEY, CONFIG, MOMENT_TOO_LATE, FOREIGN, CONTRADICTION, DEVICE, MEMORY, TOO_MANY_OPTIMISTIC = range(1, 9)
 STEP_MEMORY, STEP_DEVICE, STEP_FAILED = 1, 2, 3
 
 
@@ -126,6 +126,8 @@ class Case:
             return f"{CONFIG} {s.fault()}"
         if not s.is_in_time(now):
             return str(MOMENT_TOO_LATE)
+        if s.optimistic > MOST_OPTIMISTIC:
+            return str(TOO_MANY_OPTIMISTIC)
         if self.foreign is not None:
             return f"{FOREIGN} {self.foreign}"
         position = first_refused(s, self.found)

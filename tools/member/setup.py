@@ -4,6 +4,8 @@ from functools import cached_property
 
 from .positions import MOST, Terms
 
+# how many views of a term may be optimistic
+MOST_OPTIMISTIC = 1_000
 FORWARDS = ("disabled", "silent-voters", "silent-leader")
 
 

@@ -8,7 +8,8 @@ ghost use Rattle.batcher_assembly.specs.Judging.{is_among, without, IsJudged, Is
 
 use std::alloc::{AllocError, Global};
 use types_core::{
-    Attestation, Digest, Participant, Scheme, Signature, Subject, are_of_distinct_members,
+    AssemblyError, Attestation, Digest, Participant, Scheme, Signature, Subject,
+    are_of_distinct_members,
 };
 
 /// What came of attestations that waited.
@@ -71,7 +72,8 @@ pub fn assemble_enough<S: Scheme<D>, D: Digest>(
     }
     match scheme.assemble(alloc, given) {
         Ok(certificate) => Ok(Some(certificate)),
-        Err(_) => Err(AllocError),
+        // A quorum at least is needed wherever it is asked for: too few never come here.
+        Err(AssemblyError::Memory | AssemblyError::InsufficientAttestations(..)) => Err(AllocError),
     }
 }
 

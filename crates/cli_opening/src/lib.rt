@@ -5,5 +5,5 @@ mod looking;
 mod reaching;
 mod saying;
 
-pub use looking::{Barred, Found, look_at, look_over};
-pub use saying::{HELP, VERSION, say_barred, say_found};
+pub use looking::{Barred, Found, look_at, look_at_by, look_over, look_over_by};
+pub use saying::{HELP, VERSION, say_barred, say_barred_by, say_found};

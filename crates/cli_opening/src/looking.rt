@@ -1,12 +1,11 @@
 //! What a record's bytes hold.
 
-ghost use Rattle.std.specs.Prelude.{◌≡◌, ◌≢◌, ◌<◌, [], All, IfErr, IfNone, IfOk, IfSome, OnOk, drop, false, map, true};
+ghost use Rattle.std.specs.Prelude.{◌≡◌, ◌≢◌, ◌<◌, [], All, IfErr, IfOk, OnOk, drop, false, map, true};
 ghost use Rattle.journal_single.specs.Disk.{counted};
 ghost use Rattle.journal_single.specs.Record.{IsFound};
 ghost use Rattle.journal_look.specs.Look.{BeginsLikeOne, IsStrange, IsTooMuch, IsUnclosed};
-ghost use Rattle.simplex_record.specs.Lawful.{IsLawful, IsRefusedAt};
-ghost use Rattle.cli_tool.specs.ToolAnswers.{IsEntry, attests_in, certifies_in, entry_spelling, owner_of};
-ghost use Rattle.cli_opening.specs.Looking.{IsBarred, IsBeyondCut, IsFoundIn, barred_of};
+ghost use Rattle.cli_tool.specs.ToolAnswers.{IsEntry, entry_spelling, owner_of};
+ghost use Rattle.cli_opening.specs.Looking.{IsBarred, IsBarredBy, IsBeyondCut, IsFoundBy, IsFoundIn, barred_of};
 ghost use Rattle.cli_opening.specs.declared.looking.Barred.TheVariants as barred;
 
 use crate::reaching::{Plain, highest_view, last_finalized};
@@ -14,7 +13,8 @@ use cli_audit::scheme_of;
 use journal_look::{Strange, look};
 use journal_single::{Disk, Entries, JournalFault, read_disk, read_entries};
 use simplex_record::{Owner, first_refused};
-use std::alloc::{AllocError, Global};
+use simplex_types::PlainScheme;
+use std::alloc::Global;
 use types_core::{Epoch, Participant, TermLength};
 
 /// How many views a term of the program's committees has.
@@ -67,7 +67,7 @@ impl Barred {
     }
 }
 
-/// Looks at what a disk holds, and asks no more of it.
+/// Looks at what a disk holds, as the member of this index, of so many, has it under the program's settings, and asks no more of the disk.
 ///
 /// # Errors
 ///
@@ -88,20 +88,47 @@ pub fn look_over<K: Disk>(
     ensures no_fault { OnOk result (K.failed disk.new ≡ K.failed disk.old) }
     ensures no_fault_of_others { IfErr result (λ why. why ≢ barred.Device → K.failed disk.new ≡ K.failed disk.old) }
 {
+    match scheme_of(alloc, count) {
+        Ok(scheme) => look_over_by(alloc, disk, &scheme, owner_at(index), cuts),
+        Err(_) => Err(Barred::Memory),
+    }
+}
+
+/// Looks at what a disk holds, as its owner has it in the committee of this scheme, and asks no more of the disk.
+///
+/// # Errors
+///
+/// [`Barred::Device`] where the disk could not be read, and those of [`look_at`].
+pub fn look_over_by<K: Disk>(
+    alloc: Global,
+    disk: &mut K,
+    scheme: &PlainScheme,
+    owner: Owner,
+    cuts: bool,
+) -> Result<Found, Barred>
+    ensures found { IfOk result (λ found.
+        K.keeps → IsFoundBy scheme.now.base scheme.now.participants owner cuts (K.seen disk.old) found) }
+    ensures barred { IfErr result (λ why. K.keeps → IsBarredBy scheme.now.base scheme.now.participants owner (K.seen disk.old) why) }
+    ensures cut { IfErr result (λ why. cuts ≡ true → IsBeyondCut why) }
+    ensures seen { OnOk result (K.keeps → K.seen disk.new ≡ K.seen disk.old) }
+    ensures untouched { K.keeps → K.calls disk.new ≡ K.calls disk.old }
+    ensures device { IfErr result (λ why. why ≡ barred.Device → K.failed disk.new ≡ counted false (K.failed disk.old)) }
+    ensures no_fault { OnOk result (K.failed disk.new ≡ K.failed disk.old) }
+    ensures no_fault_of_others { IfErr result (λ why. why ≢ barred.Device → K.failed disk.new ≡ K.failed disk.old) }
+{
     match read_disk(alloc, disk) {
-        Ok(bytes) => look_at(alloc, &bytes, index, count, cuts),
+        Ok(bytes) => look_at_by(alloc, &bytes, scheme, owner, cuts),
         Err(JournalFault::Device) => Err(Barred::Device),
         Err(_) => Err(Barred::Memory),
     }
 }
 
-/// Looks at a record's bytes, as the member of this index, of so many, has it. Where `cuts`, its last gate and
-/// what stands behind it may be anything.
+/// Looks at a record's bytes, as the member of this index, of so many, has it under the program's settings. Where `cuts`, its last
+/// gate and what stands behind it may be anything.
 ///
 /// # Errors
 ///
 /// Each [`Barred`] but `Device`.
-#[tactic(auto, using(crate::proofs::Barring::barred_over, crate::proofs::Barring::found_over, crate::proofs::Barring::never_device, crate::proofs::Barring::unlawful_over))]
 pub fn look_at(
     alloc: Global,
     bytes: &[u8],
@@ -115,11 +142,36 @@ pub fn look_at(
     ensures cut { IfErr result (λ why. cuts ≡ true → IsBeyondCut why) }
     ensures not_device { IfErr result (λ why. why ≢ barred.Device) }
 {
+    match scheme_of(alloc, count) {
+        Ok(scheme) => look_at_by(alloc, bytes, &scheme, owner_at(index), cuts),
+        Err(_) => Err(Barred::Memory),
+    }
+}
+
+/// Looks at a record's bytes, as its owner has it in the committee of this scheme. Where `cuts`, its last gate and what stands behind
+/// it may be anything.
+///
+/// # Errors
+///
+/// Each [`Barred`] but `Device`.
+#[tactic(auto, using(crate::proofs::Barring::barred_over, crate::proofs::Barring::found_over, crate::proofs::Barring::never_device, crate::proofs::Barring::unlawful_over))]
+pub fn look_at_by(
+    alloc: Global,
+    bytes: &[u8],
+    scheme: &PlainScheme,
+    owner: Owner,
+    cuts: bool,
+) -> Result<Found, Barred>
+    ensures found { IfOk result (IsFoundBy scheme.now.base scheme.now.participants owner cuts bytes.now) }
+    ensures barred { IfErr result (IsBarredBy scheme.now.base scheme.now.participants owner bytes.now) }
+    ensures cut { IfErr result (λ why. cuts ≡ true → IsBeyondCut why) }
+    ensures not_device { IfErr result (λ why. why ≢ barred.Device) }
+{
     let entries = match found_in(alloc, bytes, cuts) {
         Ok(entries) => entries,
         Err(strange) => return Err(Barred::of(strange)),
     };
-    match refused_in(alloc, index, count, &entries.messages) {
+    match first_refused(alloc, scheme, owner, &entries.messages) {
         Ok(None) => Ok(Found {
             entries: entries.messages.len(),
             reaches: highest_view(&entries.messages),
@@ -160,24 +212,6 @@ fn all_in(alloc: Global, bytes: &[u8]) -> Result<Entries<Plain>, Strange>
         Err(JournalFault::Foreign(place)) => Err(Strange::Foreign(place)),
         Err(_) => Err(Strange::Memory),
     }
-}
-
-/// The position of the first artifact that a lawful record of this member refuses, if there is one.
-fn refused_in(
-    alloc: Global,
-    index: u16,
-    count: u16,
-    artifacts: &[Plain],
-) -> Result<Option<usize>, AllocError>
-    requires { index < count }
-    ensures lawful { IfOk result
-        (λ found. IfNone found (IsLawful (attests_in count) (certifies_in count) (owner_of index) artifacts.now)) }
-    ensures refused { IfOk result
-        (λ found. IfSome found (IsRefusedAt (attests_in count) (certifies_in count) (owner_of index) artifacts.now)) }
-{
-    let owner = owner_at(index);
-    let scheme = scheme_of(alloc, count)?;
-    first_refused(alloc, &scheme, owner, artifacts)
 }
 
 /// Whose record a member's is that the program runs.

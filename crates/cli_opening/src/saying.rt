@@ -2,7 +2,7 @@
 
 ghost use Rattle.std.specs.Prelude.{◌≡◌, ◌++◌, OnOk, string_bytes};
 ghost use Rattle.types_codec.specs.Front.{AppendsFront};
-ghost use Rattle.cli_opening.specs.Saying.{barred_words, found_words};
+ghost use Rattle.cli_opening.specs.Saying.{barred_words, barred_words_by, found_words};
 
 use crate::looking::{Barred, Found};
 use std::alloc::{AllocError, Global};
@@ -27,13 +27,26 @@ pub fn say_found<F: Write>(alloc: Global, path: &str, found: Found, faults: &mut
     }
 }
 
-/// Says why the file at this path is left as it is.
-#[tactic(auto, using(crate::proofs::Nothing::nothing_written))]
+/// Says why the file at this path is left as it is, where an index and a count were said.
 pub fn say_barred<F: Write>(alloc: Global, path: &str, barred: Barred, faults: &mut F)
     ensures told { AppendsFront (F.contents faults.old) (F.contents faults.new) (barred_words path.now barred) }
 {
+    say_barred_by(alloc, path, "another INDEX or COUNT", barred, faults);
+}
+
+/// The same, where what else may have been said of its record is asked in these words.
+#[tactic(auto, using(crate::proofs::Nothing::nothing_written))]
+pub fn say_barred_by<F: Write>(
+    alloc: Global,
+    path: &str,
+    asked: &str,
+    barred: Barred,
+    faults: &mut F,
+)
+    ensures told { AppendsFront (F.contents faults.old) (F.contents faults.new) (barred_words_by path.now asked.now barred) }
+{
     let mut text = String::new(alloc);
-    if push_barred(&mut text, path, barred).is_ok() {
+    if push_barred(&mut text, path, asked, barred).is_ok() {
         let _ = write_whole(faults, text.as_bytes());
     }
 }
@@ -56,9 +69,9 @@ fn push_found(text: &mut String, path: &str, found: Found) -> Result<(), AllocEr
 }
 
 /// Ends the text with the words of why a file is left as it is.
-#[tactic(auto, unfolding(crate::specs::Saying::barred_words))]
-fn push_barred(text: &mut String, path: &str, barred: Barred) -> Result<(), AllocError>
-    ensures { OnOk result (string_bytes text.new ≡ string_bytes text.old ++ barred_words path.now barred) }
+#[tactic(auto, unfolding(crate::specs::Saying::barred_words_by))]
+fn push_barred(text: &mut String, path: &str, asked: &str, barred: Barred) -> Result<(), AllocError>
+    ensures { OnOk result (string_bytes text.new ≡ string_bytes text.old ++ barred_words_by path.now asked.now barred) }
 {
     match barred {
         Barred::Memory => Ok(()),
@@ -73,7 +86,7 @@ fn push_barred(text: &mut String, path: &str, barred: Barred) -> Result<(), Allo
         ),
         Barred::Unlawful(position) => writeln!(
             text,
-            "record: {path}: left as it is, since no record of this member has entry {position}, counted from 0; was it written with another INDEX or COUNT?"
+            "record: {path}: left as it is, since no record of this member has entry {position}, counted from 0; was it written with {asked}?"
         ),
         Barred::Unclosed(place) => writeln!(
             text,

@@ -8,7 +8,7 @@ ghost use Rattle.node_votes.specs.KeepsVotes.{IsNewVote, IsOpenTo};
 ghost use Rattle.simplex_member.specs.declared.fault.NodeFault.TheVariants as step_fault;
 ghost use Rattle.simplex_member.specs.Point.{Votes};
 
-use node_votes::Acceptance;
+use node_votes::{Acceptance, refused_for};
 use simplex_member::NodeFault;
 use simplex_messages::{Activity, Vote};
 use types_core::{Digest, Scheme};
@@ -31,6 +31,6 @@ pub fn tell_own_vote<S: Scheme<D> + Drop, D: Digest>(
 {
     match acceptance.cast(vote) {
         Ok(report) => Ok(report),
-        Err(_) => Err(NodeFault::Memory),
+        Err(fault) => Err(refused_for(fault)),
     }
 }

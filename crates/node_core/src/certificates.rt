@@ -16,7 +16,7 @@ ghost use Rattle.node_core.specs.Learning.{IsUnknown};
 use crate::entered::enter;
 use crate::told_layers::give;
 use messages_certificates::{Artifact, Certificate};
-use node_votes::Acceptance;
+use node_votes::{Acceptance, refused_for};
 use simplex_member::NodeFault;
 use simplex_state::State as Voter;
 use std::alloc::{AllocError, Global};
@@ -90,6 +90,6 @@ pub fn tell_votes<S: Scheme<D> + Drop, L: Elector<S, D>, D: Digest>(
 {
     match acceptance.record(certificate) {
         Ok(()) => enter(voter, acceptance),
-        Err(_) => Err(NodeFault::Memory),
+        Err(fault) => Err(refused_for(fault)),
     }
 }

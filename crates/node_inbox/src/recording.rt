@@ -65,6 +65,7 @@ pub fn record<S: Scheme<D>, D: Digest, K: Disk>(
     match ledger.record(artifact) {
         Ok(()) => Ok(()),
         Err(NodeFault::Device) => Err(NodeFault::Device),
-        Err(_) => Err(NodeFault::Memory),
+        // A ledger that holds a record hasn't failed (clause `not_failed` of `Ledger::record`).
+        Err(NodeFault::Memory | NodeFault::Failed) => Err(NodeFault::Memory),
     }
 }

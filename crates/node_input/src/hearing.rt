@@ -11,6 +11,7 @@ ghost use Rattle.node_input.specs.Refusing.{IsAnother, MayBeHeard};
 use journal_single::Disk;
 use node_core::Core;
 use node_outbox::{hand_out, report_if};
+use node_votes::refused_for;
 use simplex_batcher::Admission;
 use simplex_member::{Action, NodeFault, Refusal, Speaks};
 use simplex_messages::Vote;
@@ -37,8 +38,9 @@ pub(crate) fn take_vote<S: Scheme<D> + Drop, L: Elector<S, D>, D: Digest, K: Dis
     ensures disk { disk_of core.new ≡ disk_of core.old }
     ensures fault { IfErr result (λ why. why ≡ step_fault.Memory) }
 {
-    let Ok(admission) = core.acceptance.hear(sender, vote) else {
-        return Err(NodeFault::Memory);
+    let admission = match core.acceptance.hear(sender, vote) {
+        Ok(admission) => admission,
+        Err(fault) => return Err(refused_for(fault)),
     };
     let added = admission.added;
     let block = admission.block;

@@ -1,6 +1,6 @@
 //! Builds that are asked for, and those that are given back.
 
-ghost use Rattle.std.specs.Prelude.{◌≡◌, ◌∷◌, ◌↔◌, [], ℕ, Bool, true, List, Some, IsTrue, IfErr, IfOk, OnOk};
+ghost use Rattle.std.specs.Prelude.{◌≡◌, ◌∷◌, ◌↔◌, [], ℕ, Bool, true, List, Some, IsOk, IsTrue, IfErr, IfOk, OnOk};
 ghost use Rattle.voter_rules.specs.Building.{IsPrepared, context_of};
 ghost use Rattle.voter_history.specs.History.{build_released};
 ghost use Rattle.simplex_state.specs.Known.{AddsIfTracked};
@@ -42,6 +42,8 @@ pub fn ask_for_build<S: Scheme<D> + Drop, L: Elector<S, D>, D: Digest>(
     ensures acts { IfOk result (λ acted.
         AtAnyAsker S.Scheme L.Elector ⟦<S as Speaks<D>>⟧.formats voter.old tables.old (λ f s h.
         ComesToAsk S.Scheme L.Elector f s is_none (NoBuildToAsk S.Scheme f s) voter.new tables.new h out.old.items out.new.items acted)) }
+    ensures without_memory { AtAnyAsker S.Scheme L.Elector ⟦<S as Speaks<D>>⟧.formats voter.old tables.old
+        (λ f s h. NoBuildToAsk S.Scheme f s h → IsOk result) }
     ensures fault { IfErr result (λ why. why ≡ step_fault.Memory) }
 {
     if !tables.has_number() {

@@ -1,6 +1,6 @@
 //! Views that are given up since their leader gave them up.
 
-ghost use Rattle.std.specs.Prelude.{◌≡◌, ◌↔◌, IsTrue, IfErr, IfOk};
+ghost use Rattle.std.specs.Prelude.{◌≡◌, ◌↔◌, ℕ, IsOk, IsTrue, IfErr, IfOk};
 ghost use Rattle.simplex_state.specs.State as voting;
 ghost use Rattle.node_votes.specs.KeepsVotes as accepting;
 ghost use Rattle.simplex_member.specs.declared.fault.NodeFault.TheVariants as step_fault;
@@ -39,6 +39,14 @@ pub fn follow_leader<S: Scheme<D> + Drop, L: Elector<S, D>, D: Digest>(
         → voting.Keeps S.Scheme L.Elector s.voter voter.old (voter_of s h)
         → accepting.Keeps S.Scheme D.PartialEq.eq s acceptance.now h
         → FollowsLeader S.Scheme L.Elector f s voter.new h acted) }
+    ensures without_memory { (s : Setup S D S.Certificate) (h : History S D S.PublicKey S.Signature S.Certificate)
+        (f : Formats S D S.PublicKey S.Signature S.Certificate)
+        → s.me ≡ me
+        → latest h ≡ now
+        → voting.Keeps S.Scheme L.Elector s.voter voter.old (voter_of s h)
+        → accepting.Keeps S.Scheme D.PartialEq.eq s acceptance.now h
+        → ((view : ℕ) → ¬ LeaderGaveUp S.Scheme f s h view)
+        → IsOk result }
     ensures fault { IfErr result (λ why. why ≡ step_fault.Memory) }
 {
     kept_votes_came_up::<S, D>();
@@ -74,6 +82,13 @@ fn follow_in<S: Scheme<D> + Drop, L: Elector<S, D>, D: Digest>(
         → voting.Keeps S.Scheme L.Elector s.voter voter.old (voter_of s h)
         → accepting.Keeps S.Scheme D.PartialEq.eq s acceptance.now h
         → FollowsIn S.Scheme L.Elector f s voter.new h view first) }
+    ensures without_memory { (s : Setup S D S.Certificate) (h : History S D S.PublicKey S.Signature S.Certificate)
+        (f : Formats S D S.PublicKey S.Signature S.Certificate)
+        → s.me ≡ me
+        → voting.Keeps S.Scheme L.Elector s.voter voter.old (voter_of s h)
+        → accepting.Keeps S.Scheme D.PartialEq.eq s acceptance.now h
+        → (¬ LeaderGaveUp S.Scheme f s h view)
+        → IsOk result }
     ensures fault { IfErr result (λ why. why ≡ step_fault.Memory) }
 {
     if !is_left_by_leader(view, me, voter, acceptance) {

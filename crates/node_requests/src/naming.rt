@@ -10,7 +10,7 @@ ghost use Rattle.simplex_member.specs.Setup.{Setup};
 ghost use Rattle.node_requests.specs.Leading.{MayBeNamed, NamesLeader, NoLeaderToName};
 
 use crate::acted::Acted;
-use node_votes::Acceptance;
+use node_votes::{Acceptance, refused_for};
 use simplex_member::NodeFault;
 use simplex_state::State as Voter;
 use types_core::{Digest, Participant, Scheme, View};
@@ -35,7 +35,7 @@ pub fn name_leader<S: Scheme<D> + Drop, L: Elector<S, D>, D: Digest>(
     match first_led(voter, acceptance) {
         Some((view, leader)) => match acceptance.lead(view, leader) {
             Ok(()) => Ok(Acted::Did),
-            Err(_) => Err(NodeFault::Memory),
+            Err(fault) => Err(refused_for(fault)),
         },
         None => Ok(Acted::Nothing),
     }

@@ -1,8 +1,10 @@
 //! Leaders that are silent.
 
-ghost use Rattle.std.specs.Prelude.{List, ◌≡◌, IfErr, IfOk};
+ghost use Rattle.std.specs.Prelude.{List, ◌≡◌, IfErr, IfOk, IsOk};
 ghost use Rattle.simplex_member.specs.declared.action.Action.{Action};
 ghost use Rattle.simplex_member.specs.declared.fault.NodeFault.TheVariants as step_fault;
+ghost use Rattle.simplex_member.specs.Allowed.{IsSilent};
+ghost use Rattle.simplex_member.specs.Layers.{latest};
 ghost use Rattle.node_requests.specs.Asking.{AtAnyAsker, ComesToAsk, is_none};
 ghost use Rattle.node_requests.specs.NoneDue.{NoSilence};
 ghost use Rattle.node_requests.specs.Silence.{IsSilenceOf, IsSilentFrom};
@@ -60,6 +62,8 @@ pub fn give_silent_leader_up<S: Scheme<D> + Drop, L: Elector<S, D>, D: Digest>(
         IsSilenceOf s silence
         → (actions : List (Action S D S.PublicKey S.Signature S.Certificate))
         → ComesToAsk S.Scheme L.Elector f s is_none (NoSilence S.Scheme f s) voter.new tables.now h actions actions acted)) }
+    ensures without_memory { AtAnyAsker S.Scheme L.Elector ⟦<S as Speaks<D>>⟧.formats voter.old tables.now
+        (λ f s h. IsSilenceOf s silence → (¬ IsSilent S.Scheme f s h (latest h)) → IsOk result) }
     ensures fault { IfErr result (λ why. why ≡ step_fault.Memory) }
 {
     let Some(moment) = silent_from(silence, voter, tables) else {

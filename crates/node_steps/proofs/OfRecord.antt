@@ -12,6 +12,7 @@ never_early (open_fault.Contradiction position) is told = absurd cc
 never_early open_fault.NoKey is told = told
 never_early (open_fault.Config x) is told = told
 never_early open_fault.MomentTooLate is told = told
+never_early open_fault.TooManyOptimistic is told = told
 never_early open_fault.Device is told = told
 never_early open_fault.Memory is told = told
 

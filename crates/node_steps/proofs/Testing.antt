@@ -93,9 +93,10 @@ module _ {S D P G C : Type 0} (g : Ghosts S D P G C) (s : Setup S D C) (c : Conf
         ),
       )
 
-  -- where the configuration is good, the last test decides
+  -- where the configuration is good, the last tests decide
   pub behind-config : ((x : ConfigFault) → config.Applies c (g.size s.voter.scheme) x → ⊥) → (answer : Option OpenFault)
-      → IsFirst ((open_fault.MomentTooLate, (IsInTime s now → ⊥)) ∷ []) answer → IsFirst (open_tests g s c now) answer
+      → IsFirst ((open_fault.MomentTooLate, (IsInTime s now → ⊥)) ∷ (open_fault.TooManyOptimistic, 1000 < s.voter.optimistic_views) ∷ []) answer
+      → IsFirst (open_tests g s c now) answer
   behind-config good answer last =
       inr (
         key,
@@ -119,6 +120,7 @@ pub late : (why : OpenFault) → (why ≡ open_fault.Device) ⊎ ((why ≡ open_
 late open_fault.NoKey is = absurd (⊎_elim (λ e. cc e) (⊎_elim (λ e. cc e) (⊎_elim (λ e. cc e.1) (λ e. cc e.1))) is)
 late (open_fault.Config x) is = absurd (⊎_elim (λ e. cc e) (⊎_elim (λ e. cc e) (⊎_elim (λ e. cc e.1) (λ e. cc e.1))) is)
 late open_fault.MomentTooLate is = absurd (⊎_elim (λ e. cc e) (⊎_elim (λ e. cc e) (⊎_elim (λ e. cc e.1) (λ e. cc e.1))) is)
+late open_fault.TooManyOptimistic is = absurd (⊎_elim (λ e. cc e) (⊎_elim (λ e. cc e) (⊎_elim (λ e. cc e.1) (λ e. cc e.1))) is)
 late (open_fault.Foreign place) is = refl
 late (open_fault.Contradiction position) is = refl
 late open_fault.Device is = refl

@@ -1,5 +1,5 @@
 -- How a record is opened: what is wrong with the arguments, and what comes of it.
-use Rattle.std.specs.Prelude.{◌≡◌, ◌≢◌, ◌⊎◌, ◌++◌, ℕ, List, [], ◌∷◌, map, Option, Some, None, Result, IfOk, IfErr, IfSome, OnOk, false, ⊤}
+use Rattle.std.specs.Prelude.{◌≡◌, ◌≢◌, ◌<◌, ◌⊎◌, ◌++◌, ℕ, List, [], ◌∷◌, map, Option, Some, None, Result, IfOk, IfErr, IfSome, OnOk, false, ⊤}
 use Rattle.types_core.specs.declared.scheme.Scheme.{Ghosts}
 use Rattle.messages_certificates.specs.declared.artifact.Artifact.{Artifact}
 use Rattle.types_terms.specs.declared.elector.Elector as elector
@@ -32,6 +32,7 @@ abbrev pub early : OpenFault → Option OpenFault
 early open_fault.NoKey = Some open_fault.NoKey
 early (open_fault.Config x) = Some (open_fault.Config x)
 early open_fault.MomentTooLate = Some open_fault.MomentTooLate
+early open_fault.TooManyOptimistic = Some open_fault.TooManyOptimistic
 early x = None
 
 -- the fault is of what stands on the disk: an entry that is none, or that the rules refuse
@@ -52,7 +53,7 @@ module _ {S D P G C : Type 0} (g : Ghosts S D P G C) (s : Setup S D C) where
       ∷ map (λ x. (open_fault.Config x, Applies config (g.size s.voter.scheme) x))
       (fault.NoParticipants ∷ fault.LeaderTimeoutZero ∷ fault.CertificationNotAboveLeader ∷ fault.SkipNotAboveCertification ∷ fault.SkipNotAboveRetry
       ∷ fault.RetryZero ∷ fault.RetentionZero ∷ fault.TooManyParticipants ∷ [])
-      ++ (open_fault.MomentTooLate, IsInTime s now → ⊥) ∷ []
+      ++ (open_fault.MomentTooLate, IsInTime s now → ⊥) ∷ (open_fault.TooManyOptimistic, 1000 < s.voter.optimistic_views) ∷ []
 
 module _ {S D P G C K : Type 0} (g : Ghosts S D P G C) (k : disk.Ghosts K) (spelled : Artifact S D P G C → List ℕ)
     (Readable : Artifact S D P G C → Type 0) where

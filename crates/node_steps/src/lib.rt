@@ -7,5 +7,6 @@ mod opening;
 mod stepping;
 
 pub use node::Node;
+pub use opening::MOST_OPTIMISTIC;
 pub use simplex_network::{accountability, agreement, headline};
 pub use simplex_record::{Owner, first_refused};

@@ -1,6 +1,6 @@
 //! Opening a record.
 
-ghost use Rattle.std.specs.Prelude.{◌≡◌, ◌≢◌, ◌↔◌, ◌⊎◌, ℕ, [], None, Some, IfOk, IfErr, IfSome, OnOk, false, max, unwrap_or};
+ghost use Rattle.std.specs.Prelude.{◌≡◌, ◌≢◌, ◌<◌, ◌↔◌, ◌⊎◌, ℕ, IsTrue, [], None, Some, IfOk, IfErr, IfSome, OnOk, false, max, unwrap_or};
 ghost use Rattle.messages_certificates.specs.Artifact.{artifact_spelling};
 ghost use Rattle.journal_single.specs.Disk.{LeavesOnly, counted};
 ghost use Rattle.journal_single.specs.Looking.{IsLeftAsItWas};
@@ -30,13 +30,17 @@ use types_core::{Digest, Participant, Scheme, Write};
 use types_terms::{Elector, Terms};
 use voter_rules::config::{Config, SkipPolicy, check_config};
 
+/// How many views of a term may be optimistic: a step goes over each of them.
+pub const MOST_OPTIMISTIC: u64 = 1_000;
+
 impl<S: Scheme<D> + Drop, L: Elector<S, D>, D: Digest, K: Disk> Node<S, L, D, K> {
     /// Opens a member's record at a moment, in milliseconds: the node behind all that it says, and its first actions.
     ///
     /// # Errors
     ///
-    /// The first of [`OpenFault::NoKey`], [`OpenFault::Config`] and [`OpenFault::MomentTooLate`] that applies, before the disk is
-    /// asked for anything; then what is wrong with the disk, or [`OpenFault::Memory`]. With the disk.
+    /// The first of [`OpenFault::NoKey`], [`OpenFault::Config`], [`OpenFault::MomentTooLate`] and [`OpenFault::TooManyOptimistic`]
+    /// (above [`MOST_OPTIMISTIC`]) that applies, before the disk is asked for anything; then what is wrong with the disk, or
+    /// [`OpenFault::Memory`]. With the disk.
     pub fn open(
         alloc: Global,
         config: Config<D>,
@@ -215,7 +219,8 @@ fn node_of<S: Scheme<D> + Drop, L: Elector<S, D>, D: Digest, K: Disk>(
 ///
 /// # Errors
 ///
-/// The first of [`OpenFault::NoKey`], [`OpenFault::Config`] and [`OpenFault::MomentTooLate`] that applies.
+/// The first of [`OpenFault::NoKey`], [`OpenFault::Config`], [`OpenFault::MomentTooLate`] and [`OpenFault::TooManyOptimistic`] that
+/// applies.
 fn member_of<S: Scheme<D>, L: Elector<S, D>, D: Digest>(
     config: &Config<D>,
     scheme: &S,
@@ -238,12 +243,23 @@ fn member_of<S: Scheme<D>, L: Elector<S, D>, D: Digest>(
         Ok(()) => {}
         Err(fault) => return Err(OpenFault::Config(fault)),
     }
-    if longest_timeout(config, &elector.terms()) > u64::MAX - now {
+    let terms = elector.terms();
+    if longest_timeout(config, &terms) > u64::MAX - now {
         return Err(OpenFault::MomentTooLate);
     }
+    if has_many_optimistic(&terms) {
+        return Err(OpenFault::TooManyOptimistic);
+    }
     // The proof takes from their length that terms have views.
-    let _length = elector.terms().length();
+    let _length = terms.length();
     Ok(me)
+}
+
+/// Whether more views of a term are optimistic than a step may go over.
+fn has_many_optimistic(terms: &Terms) -> bool
+    ensures { IsTrue result ↔ (1000 < terms.now.optimistic_views) }
+{
+    terms.optimistic_views().get() > MOST_OPTIMISTIC
 }
 
 /// What stays the same through an opening by this member.

@@ -4,8 +4,10 @@
 mod acceptance;
 mod due;
 mod laws;
+mod refused;
 mod rounds;
 
 pub use acceptance::Acceptance;
 pub use due::Due;
 pub use laws::{kept_votes_came_up, silent_points_leave_votes};
+pub use refused::refused_for;

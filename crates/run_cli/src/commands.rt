@@ -1,6 +1,5 @@
 //! The words of the command line, the names of troubles, and the sizes of messages.
 
-use crate::texts::say_text;
 use cli_audit::{Command, USAGE, number_of, parse_words};
 use cli_tool::{Kind, message_size};
 use std::alloc::Global;
@@ -48,7 +47,7 @@ pub(crate) fn parse(words: &mut Words<'_>, say: &mut Say) -> Result<(), Trouble>
         }
         Some(Command::Node { path, index, count }) => {
             say.text("node ")?;
-            say_text(path.as_bytes(), say)?;
+            say.quoted(path.as_bytes())?;
             say.gap()?;
             say.number(u64::from(index))?;
             say.gap()?;
@@ -71,7 +70,7 @@ pub(crate) fn number(words: &mut Words<'_>, say: &mut Say) -> Result<(), Trouble
 /// `usage`.
 pub(crate) fn usage(words: &mut Words<'_>, say: &mut Say) -> Result<(), Trouble> {
     words.end()?;
-    say_text(USAGE.as_bytes(), say)
+    say.quoted(USAGE.as_bytes())
 }
 
 /// The trouble of a name.
@@ -97,7 +96,7 @@ pub(crate) fn name_of(trouble: cli_audit::Trouble) -> &'static str {
 pub(crate) fn line(words: &mut Words<'_>, say: &mut Say) -> Result<(), Trouble> {
     let trouble = trouble_of(words.word())?;
     words.end()?;
-    say_text(trouble.line().as_bytes(), say)
+    say.quoted(trouble.line().as_bytes())
 }
 
 /// The kind of message of a name.

@@ -33,7 +33,6 @@ mod commands;
 mod fakes;
 mod serving_node;
 mod streams;
-mod texts;
 
 use crate::serving_node::Medium;
 use crate::streams::Streams;

@@ -4,7 +4,6 @@ ghost use Rattle.std.specs.Prelude.{◌<◌};
 
 use crate::commands;
 use crate::fakes::{FakeReader, FakeWriter, Manner, kind_of};
-use crate::texts::say_text;
 use cli_audit::{audit_over, report, run_words, words_unread, write_audit};
 use cli_tool::{misused, parse_call, run_request};
 use journal_single::MemoryDisk;
@@ -142,7 +141,7 @@ impl Streams {
         say.gap()?;
         say.bytes(output.taken())?;
         say.gap()?;
-        say_text(faults.taken(), say)?;
+        say.quoted(faults.taken())?;
         Ok(disk)
     }
 
@@ -192,7 +191,7 @@ fn say_all(
     say.number(u64::from(status))?;
     say_moved(input, output, say)?;
     say.gap()?;
-    say_text(faults.taken(), say)
+    say.quoted(faults.taken())
 }
 
 /// `LEFT OUTPUT`, behind something.
@@ -200,7 +199,7 @@ fn say_moved(input: &FakeReader<'_>, output: &FakeWriter, say: &mut Say) -> Resu
     say.gap()?;
     say.number(input.left() as u64)?;
     say.gap()?;
-    say_text(output.taken(), say)
+    say.quoted(output.taken())
 }
 
 /// What an audit came to.
@@ -222,7 +221,7 @@ fn say_outcome(
 fn say_told(status: u8, faults: &FakeWriter, say: &mut Say) -> Result<(), Trouble> {
     say.number(u64::from(status))?;
     say.gap()?;
-    say_text(faults.taken(), say)
+    say.quoted(faults.taken())
 }
 
 /// The last word of a line, which spells a number below 65,536.

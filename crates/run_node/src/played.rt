@@ -1,16 +1,16 @@
 //! The node that scripts are played on.
 
-ghost use Rattle.std.specs.Prelude.{◌≡◌, IfOk};
+ghost use Rattle.std.specs.Prelude.{◌≡◌, All, IfOk};
 
 use journal_single::Disk;
 use node_steps::Node;
 use simplex_member::{Action, Event, IoFault, NodeFault, OpenFault, Reply};
-use simplex_node::{CountedWriter, run_io};
-use std::alloc::Global;
+use simplex_node::{Answered, CountedWriter, Opening, live, run_io};
+use std::alloc::{AllocError, Global};
 use std::io::{Read, Write};
 use std::mem;
 use std::rc::Rc;
-use test_node::{Medium, Member, Seat, Setup, Turns, play_on};
+use test_node::{Life, Medium, Member, Seat, Setup, Told, Turns, play_on};
 use test_words::Committee;
 use types_core::{Digest, Scheme, Sha256Digest, View};
 use voter_rules::config::Config;
@@ -29,6 +29,8 @@ impl<S: Scheme<D> + Drop, L: Turns<S, D>, D: Digest, K: Disk> Seat<
     Action<S, D>,
     Reply<S, D>,
 > for NodeSeat {
+    type Answered = Answered<S, D>;
+
     fn open(
         alloc: Global,
         setup: &Setup,
@@ -60,6 +62,32 @@ impl<S: Scheme<D> + Drop, L: Turns<S, D>, D: Digest, K: Disk> Seat<
         ended
     }
 
+    fn live(
+        alloc: Global,
+        setup: &Setup,
+        lives: Vec<Life<Config<D>, S, Event<D>>>,
+        disk: K,
+    ) -> Result<(Vec<Answered<S, D>>, K), K> {
+        let Ok(openings) = openings::<S, L, D>(alloc, setup, lives) else {
+            return Err(disk);
+        };
+        match live(alloc, disk, openings) {
+            Ok(lived) => Ok(lived),
+            Err((_, disk)) => Err(disk),
+        }
+    }
+
+    fn told(answered: Answered<S, D>) -> Result<Told<Action<S, D>, Reply<S, D>>, OpenFault> {
+        match answered {
+            Answered::Opened(first, answers) => Ok(Told {
+                first,
+                replies: answers.replies,
+                fault: answers.fault,
+            }),
+            Answered::NotOpened(fault) => Err(fault),
+        }
+    }
+
     fn current_view(node: &Node<S, L, D, K>) -> View {
         node.current_view()
     }
@@ -75,6 +103,39 @@ impl<S: Scheme<D> + Drop, L: Turns<S, D>, D: Digest, K: Disk> Seat<
     fn close(node: Node<S, L, D, K>) -> K {
         node.close()
     }
+}
+
+/// The openings of these lives.
+fn openings<S: Scheme<D> + Drop, L: Turns<S, D>, D: Digest>(
+    alloc: Global,
+    setup: &Setup,
+    lives: Vec<Life<Config<D>, S, Event<D>>>,
+) -> Result<Vec<Opening<S, L, D>>, AllocError>
+    ensures { IfOk result (λ r. All (λ o. L.built_for o.elector (S.size o.scheme.value)) r.items) }
+{
+    let mut openings = Vec::new(alloc);
+    for life in lives {
+        openings.push(opening_of(alloc, setup, life)?)?;
+    }
+    Ok(openings)
+}
+
+/// The opening of one of them.
+fn opening_of<S: Scheme<D> + Drop, L: Turns<S, D>, D: Digest>(
+    alloc: Global,
+    setup: &Setup,
+    life: Life<Config<D>, S, Event<D>>,
+) -> Result<Opening<S, L, D>, AllocError>
+    ensures { IfOk result (λ o. L.built_for o.elector (S.size o.scheme.value)) }
+{
+    let elector = L::among(alloc, setup, life.scheme.participants())?;
+    Ok(Opening {
+        config: life.config,
+        scheme: life.scheme,
+        elector,
+        now: life.now,
+        events: life.events,
+    })
 }
 
 /// A member of the scripts, played by a node of the product.

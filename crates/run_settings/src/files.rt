@@ -3,7 +3,7 @@
 ghost use Rattle.cli_settings.specs.Checking.{IsGood};
 
 use crate::light::{chain, one};
-use crate::texts::say_text;
+use crate::member::member_of;
 use cli_file::{path_behind, read_file, tell_settings};
 use cli_settings::Settings;
 use cli_toml::MemberFile;
@@ -74,7 +74,7 @@ impl Files {
         self.text = Vec::new(say.alloc);
         say.number(u64::from(status))?;
         say.gap()?;
-        say_text(&faults, say)
+        say.quoted(&faults)
     }
 
     /// `settings`.
@@ -85,11 +85,22 @@ impl Files {
         let status = tell_settings(say.alloc, &mut self.text.as_slice(), &mut told, &mut faults);
         say.number(u64::from(status))?;
         say.gap()?;
-        say_text(&told, say)?;
+        say.quoted(&told)?;
         say.gap()?;
-        say_text(&faults, say)?;
+        say.quoted(&faults)?;
         self.text = told;
         Ok(())
+    }
+
+    /// `member CUTS DISK EVENTS`.
+    pub(crate) fn member(&mut self, words: &mut Words<'_>, say: &mut Say) -> Result<(), Trouble> {
+        let Some(file) = &self.file else {
+            return Err(Trouble::Condition);
+        };
+        match file.settings.check() {
+            Ok(()) => member_of(&file.settings, words, say),
+            Err(_) => Err(Trouble::Condition),
+        }
     }
 
     /// The calls about certificates.
@@ -134,7 +145,7 @@ pub(crate) fn ask(words: &mut Words<'_>, say: &mut Say) -> Result<(), Trouble> {
     }
     words.end()?;
     match path_behind(name, &spoken) {
-        Some(path) => say_text(path.as_bytes(), say),
+        Some(path) => say.quoted(path.as_bytes()),
         None => say.none(),
     }
 }

@@ -1,4 +1,4 @@
-//! Plays scripts on files of settings, and on what certificates certify for the members of such a file.
+//! Plays scripts on files of settings, on a member by such a file, and on what certificates certify for its committee.
 //!
 //! A script has a text, empty behind `reset`, and the file of settings that was read last, if it was one.
 //!
@@ -9,6 +9,7 @@
 //! | `file` | `STATUS FAULTS` of reading the text as a file of settings; then it is empty |
 //! | `settings` | `STATUS OUTPUT FAULTS` of telling what it says; then it is what was told |
 //! | `ask NAME WORD ..` | the path that the words name behind NAME, or `-` |
+//! | `member CUTS DISK EVENTS` | `STATUS REPLIES FAULTS DISK` of the member of the file over a disk of these bytes; the first word is 1 to cut |
 //! | `certifies BYTES` | what these bytes certify for the members of the file, or why nothing |
 //! | `chain BYTES` | the proposals that these certificates make final, or `PLACE WHY` of the first that breaks the chain |
 //!
@@ -19,7 +20,7 @@
 
 mod files;
 mod light;
-mod texts;
+mod member;
 
 use crate::files::Files;
 use std::alloc::Global;
@@ -41,6 +42,7 @@ impl Layer for Files {
             "file" => self.file(words, say),
             "settings" => self.settings(words, say),
             "ask" => files::ask(words, say),
+            "member" => self.member(words, say),
             _ => self.light(name, words, say),
         }
     }

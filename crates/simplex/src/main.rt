@@ -4,17 +4,16 @@
 
 ghost use Rattle.std.specs.Prelude.{◌<◌};
 
-use cli_opening::{Barred, HELP, VERSION, look_over, say_barred, say_found};
-use simplex_cli::{
-    Command, Ending, Trouble, node_over, parse_words, report, run_words, tell, words_unread,
-};
-use simplex_journal::FileDisk;
-use simplex_node::{CountedReader, CountedWriter, OpenFault};
-use std::fs::{self, File, OpenOptions};
-use std::os::unix::fs::{MetadataExt, OpenOptionsExt};
+use cli_opening::{HELP, VERSION, look_over, say_found};
+use cli_record::{hold_streams, left, record_at, unopened};
+use simplex_cli::{Command, Trouble, node_over, parse_words, report, run_words, words_unread};
+use simplex_node::{CountedReader, CountedWriter};
 use std::process::ExitCode;
 use std::{env, io};
 use types_codec::write_whole;
+
+/// What else may have been said of a record that isn't this member's.
+const ASKED: &str = "another INDEX or COUNT";
 
 /// The words after the program's name.
 fn words(rt: &HostRuntime) -> io::Result<Vec<String>> {
@@ -22,121 +21,27 @@ fn words(rt: &HostRuntime) -> io::Result<Vec<String>> {
     Ok(words)
 }
 
-/// Tells why the record's file at this path was not opened, and answers the status.
-fn unopened(rt: &HostRuntime, path: &str, error: &io::Error) -> u8 {
-    let trouble = match error.kind() {
-        io::ErrorKind::OutOfMemory => Trouble::Memory,
-        _ => Trouble::Device,
-    };
-    let status = report(Err(trouble), &mut rt.stderr());
-    let _ = match error.kind() {
-        io::ErrorKind::OutOfMemory => Ok(()),
-        io::ErrorKind::WouldBlock => {
-            eprintln!(rt;
-                "record: {path}: it is locked: another process has it open, and only one may"
-            )
-        }
-        io::ErrorKind::InvalidInput => {
-            eprintln!(rt; "record: {path}: it is no file, but a folder, a device or a pipe")
-        }
-        _ => eprintln!(rt; "record: {path}: it can't be opened, made or locked: {error}"),
-    };
-    status
-}
-
-/// Three files that are open, in the places of standard streams that whoever called this had closed, if any: the next that is
-/// opened is none of them. They can't be read or written, so whoever tries it is told.
-fn hold_streams(rt: &HostRuntime) -> io::Result<(File, File, File)> {
-    let first = File::open(rt, "/")?;
-    let second = File::open(rt, "/")?;
-    let third = File::open(rt, "/")?;
-    Ok((first, second, third))
-}
-
-/// The disk in the file at this path, which is no folder, device or pipe. A file that has to be made is its owner's alone: whoever
-/// can open it can lock it.
-fn disk_at(rt: &HostRuntime, path: &str) -> io::Result<FileDisk> {
-    match fs::metadata(rt, path) {
-        Ok(found) if !found.is_file() => return Err(io::Error::from(io::ErrorKind::InvalidInput)),
-        _ => {}
-    }
-    let made = OpenOptions::new()
-        .read(true)
-        .write(true)
-        .create(true)
-        .mode(0o600)
-        .open(rt, path)?;
-    drop(made);
-    FileDisk::open(rt, path)
-}
-
-/// Whether what stands at the first path is the file at the second.
-fn is_same(rt: &HostRuntime, stream: &str, path: &str) -> io::Result<bool> {
-    let record = fs::metadata(rt, path)?;
-    let stream = fs::metadata(rt, stream)?;
-    Ok(record.dev() == stream.dev() && record.ino() == stream.ino())
-}
-
-/// The status where the record at this path is also a stream of this program: what is written there would end in it. Where it is
-/// standard error, nothing can be told.
-fn written_into(rt: &HostRuntime, path: &str) -> Option<u8> {
-    if let Ok(true) = is_same(rt, "/dev/stderr", path) {
-        return Some(1);
-    }
-    if let Ok(true) = is_same(rt, "/dev/stdout", path) {
-        let status = report(Err(Trouble::Write), &mut rt.stderr());
-        let _ = eprintln!(rt;
-            "record: {path}: left as it is, since standard output is written into it"
-        );
-        return Some(status);
-    }
-    None
-}
-
-/// The fault of an opening that a file is left for.
-fn fault_of(barred: Barred) -> OpenFault {
-    match barred {
-        Barred::Memory => OpenFault::Memory,
-        Barred::Foreign(place) => OpenFault::Foreign(place),
-        Barred::Unlawful(position) => OpenFault::Contradiction(position),
-        Barred::Device | Barred::NoRecord | Barred::Unclosed(_) | Barred::Behind(_) => {
-            OpenFault::Device
-        }
-    }
-}
-
-/// Tells why a file is left as it is, behind the line of the fault that it is, and answers the status.
-fn left(rt: &HostRuntime, path: &str, barred: Barred) -> u8 {
-    let mut faults = rt.stderr();
-    let status = tell(rt.alloc(), Err(Ending::Open(fault_of(barred))), &mut faults);
-    say_barred(rt.alloc(), path, barred, &mut faults);
-    status
-}
-
 /// Runs the member of this index, of so many, over the record in the file at this path, and answers the status. Where `cuts`, all that
 /// stands behind the record's last whole entry is cut; else no more than a crash leaves.
 fn run_node(rt: &HostRuntime, path: &str, index: u16, count: u16, cuts: bool) -> u8
     requires { index < count }
 {
+    let mut faults = rt.stderr();
     // Else replies might be written into the record.
     let _held = match hold_streams(rt) {
         Ok(held) => held,
-        Err(error) => return unopened(rt, path, &error),
+        Err(error) => return unopened(rt.alloc(), path, &error, &mut faults),
     };
-    if let Some(status) = written_into(rt, path) {
-        return status;
-    }
-    let mut disk = match disk_at(rt, path) {
+    let mut disk = match record_at(rt.alloc(), rt, path, &mut faults) {
         Ok(disk) => disk,
-        Err(error) => return unopened(rt, path, &error),
+        Err(status) => return status,
     };
     match look_over(rt.alloc(), &mut disk, index, count, cuts) {
-        Ok(found) => say_found(rt.alloc(), path, found, &mut rt.stderr()),
-        Err(barred) => return left(rt, path, barred),
+        Ok(found) => say_found(rt.alloc(), path, found, &mut faults),
+        Err(barred) => return left(rt.alloc(), path, ASKED, barred, &mut faults),
     }
     let mut input = CountedReader::new(rt.stdin());
     let mut output = CountedWriter::new(rt.stdout());
-    let mut faults = rt.stderr();
     node_over(
         rt.alloc(),
         disk,

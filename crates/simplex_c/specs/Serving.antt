@@ -47,6 +47,7 @@ abbrev pub unopened_status : OpenFault → Status
 unopened_status open_fault.NoKey = status.Argument
 unopened_status (open_fault.Config x) = status.Argument
 unopened_status open_fault.MomentTooLate = status.Argument
+unopened_status open_fault.TooManyOptimistic = status.Argument
 unopened_status (open_fault.Foreign place) = status.Foreign
 unopened_status (open_fault.Contradiction position) = status.Refused
 unopened_status open_fault.Device = status.Device

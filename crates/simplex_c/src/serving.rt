@@ -253,7 +253,10 @@ fn placeless(fault: OpenFault) -> Status
         OpenFault::Contradiction(_) => Status::Refused,
         OpenFault::Device => Status::Device,
         OpenFault::Memory => Status::Memory,
-        OpenFault::NoKey | OpenFault::Config(_) | OpenFault::MomentTooLate => Status::Argument,
+        OpenFault::NoKey
+        | OpenFault::Config(_)
+        | OpenFault::MomentTooLate
+        | OpenFault::TooManyOptimistic => Status::Argument,
     }
 }
 

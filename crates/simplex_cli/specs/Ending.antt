@@ -24,6 +24,7 @@ open_line (open_fault.Foreign place) = concat (codes "error: open 4 at " ∷ dec
 open_line (open_fault.Contradiction position) = concat (codes "error: open 5 at " ∷ decimal position ∷ newline ∷ [])
 open_line open_fault.Device = codes "error: open 6" ++ newline
 open_line open_fault.Memory = codes "error: open 7" ++ newline
+open_line open_fault.TooManyOptimistic = codes "error: open 8" ++ newline
 
 -- the line for a step's fault: its number
 unfoldable pub step_line : NodeFault → List ℕ

@@ -76,6 +76,7 @@ fn push_open(text: &mut String, fault: OpenFault) -> Result<(), AllocError>
         OpenFault::Contradiction(position) => writeln!(text, "error: open 5 at {position}"),
         OpenFault::Device => text.push_str("error: open 6\n"),
         OpenFault::Memory => text.push_str("error: open 7\n"),
+        OpenFault::TooManyOptimistic => text.push_str("error: open 8\n"),
     }
 }
 

@@ -22,6 +22,8 @@ pub enum OpenFault {
     Config(ConfigFault),
     /// The moment lies so far ahead that deadlines have no number.
     MomentTooLate,
+    /// More views of a term are optimistic than a step may go over.
+    TooManyOptimistic,
     /// At this place of the disk stands an entry that is no artifact.
     Foreign(u64),
     /// The rules refuse the artifact behind so many.

@@ -358,6 +358,7 @@ module _ {S L D P G C : Type 0} (g : Ghosts S D P G C) (e : elector.Ghosts L S D
         fails X open_fault.NoKey told later foreign contradiction = (told.0, λ none. absurd (some-none open_fault.NoKey none))
         fails X (open_fault.Config x) told later foreign contradiction = (told.0, λ none. absurd (some-none (open_fault.Config x) none))
         fails X open_fault.MomentTooLate told later foreign contradiction = (told.0, λ none. absurd (some-none open_fault.MomentTooLate none))
+        fails X open_fault.TooManyOptimistic told later foreign contradiction = (told.0, λ none. absurd (some-none open_fault.TooManyOptimistic none))
         fails X (open_fault.Foreign place) told later foreign contradiction =
             absurd (never at-start.lives at-start.left (k.seen on) place at-start.lived at-start.reads (foreign place refl keeps))
         fails X (open_fault.Contradiction position) told later foreign contradiction = absurd (no-contradiction position (contradiction position refl))

@@ -232,6 +232,7 @@ pub opening-failures : (S D P G C : Type 0) (why : OpenFault) (old new : ℕ) �
 opening-failures S D P G C open_fault.NoKey old new device no_device = no_device (λ e. cc e)
 opening-failures S D P G C (open_fault.Config x) old new device no_device = no_device (λ e. cc e)
 opening-failures S D P G C open_fault.MomentTooLate old new device no_device = no_device (λ e. cc e)
+opening-failures S D P G C open_fault.TooManyOptimistic old new device no_device = no_device (λ e. cc e)
 opening-failures S D P G C (open_fault.Foreign place) old new device no_device = no_device (λ e. cc e)
 opening-failures S D P G C (open_fault.Contradiction position) old new device no_device = no_device (λ e. cc e)
 opening-failures S D P G C open_fault.Memory old new device no_device = no_device (λ e. cc e)

@@ -9,7 +9,9 @@ mod stepping;
 mod streaming;
 
 pub use living::{Answered, Opening, live};
-pub use node_steps::{Node, Owner, accountability, agreement, first_refused, headline};
+pub use node_steps::{
+    MOST_OPTIMISTIC, Node, Owner, accountability, agreement, first_refused, headline,
+};
 pub use node_wire::{
     Answers, CountedReader, CountedWriter, EventInput, Sink, Source, StreamFault, read_event,
     write_event, write_out, write_reply,

@@ -1,15 +1,19 @@
-//! `simplex_tool`: hands the program's words, its streams and the file that they name to the libraries, and says of a record that is
-//! checked what of its file is no part of it.
+//! `simplex_tool`: hands the program's words, its streams and the file that they name to the libraries, says of a record that is
+//! checked what of its file is no part of it, and runs a member by a file of its settings.
 #![tactic(auto)]
+
+mod member;
 
 ghost use Rattle.std.specs.Prelude.{◌<◌};
 ghost use Rattle.cli_tool.specs.Command.{IsAsked};
 
+use crate::member::run_file;
 use cli_audit::{Trouble, read_all, report};
 use cli_file::{HELP, path_behind, tell_settings};
 use cli_opening::{look_at, say_barred, say_found};
 use cli_tool::{Call, Request, misused, parse_call, run_request, unopened, words_unread};
 use std::fs::{self, File};
+use std::io::Write;
 use std::process::ExitCode;
 use std::{env, io};
 use types_codec::write_whole;
@@ -78,7 +82,7 @@ fn answer_of_input(rt: &HostRuntime, call: Call<'_>) -> u8
     run_request(rt.alloc(), call, &mut input, &mut output, &mut faults)
 }
 
-/// Answers a call for help: how the program is called, with the command on files of settings.
+/// Answers a call for help: how the program is called, with the commands on files of settings.
 fn answer_of_help(rt: &HostRuntime, call: Call<'_>) -> u8
     requires { IsAsked call.request }
 {
@@ -86,17 +90,23 @@ fn answer_of_help(rt: &HostRuntime, call: Call<'_>) -> u8
     if status != 0 {
         return status;
     }
-    match write_whole(&mut rt.stdout(), HELP.as_bytes()) {
+    match say_help(&mut rt.stdout()) {
         Ok(()) => 0,
         Err(_) => report(Err(Trouble::Write), &mut rt.stderr()),
     }
+}
+
+/// Says how the program is called with a file of settings.
+fn say_help<W: Write>(output: &mut W) -> io::Result<()> {
+    write_whole(output, HELP.as_bytes())?;
+    write_whole(output, cli_member::HELP.as_bytes())
 }
 
 /// The status where the words are no call, with how the program is called on standard error.
 fn answer_of_none(rt: &HostRuntime) -> u8 {
     let mut faults = rt.stderr();
     let status = misused(&mut faults);
-    let _ = write_whole(&mut faults, HELP.as_bytes());
+    let _ = say_help(&mut faults);
     status
 }
 
@@ -112,6 +122,17 @@ fn tell_file(rt: &HostRuntime, path: &str) -> u8 {
 
 /// Answers the call of these words.
 fn answer(rt: &HostRuntime, words: &[String]) -> u8 {
+    match words {
+        [command @ .., last] if last.as_str() == "--cut" => {
+            if let Some(path) = path_behind("member", command) {
+                return run_file(rt, path, true);
+            }
+        }
+        _ => {}
+    }
+    if let Some(path) = path_behind("member", words) {
+        return run_file(rt, path, false);
+    }
     match path_behind("settings", words) {
         Some(path) => tell_file(rt, path),
         None => answer_call(rt, words),

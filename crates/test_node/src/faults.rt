@@ -13,6 +13,7 @@ pub(crate) fn say_open_fault(fault: OpenFault, say: &mut Say) -> Result<(), Trou
         OpenFault::Contradiction(position) => say_with(5, position as u64, say),
         OpenFault::Device => say.text("fault 6"),
         OpenFault::Memory => say.text("fault 7"),
+        OpenFault::TooManyOptimistic => say.text("fault 8"),
     }
 }
 

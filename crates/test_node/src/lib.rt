@@ -11,6 +11,9 @@
 //! - `event EVENT`: the reply, or `fault NUMBER`; `times COUNT event EVENT`: so many times, and what is answered each time
 //!   where that is the same, else `changes`; `stream EVENTS`: the replies to so many events, one behind the other, read and
 //!   written as streams, and behind them `bad PLACE` where no event stands at that byte, or `fault NUMBER`
+//! - `live NOW EVENTS NOW EVENTS ..`: closes the node that is open, and opens the disk at each NOW in turn with so many events, in
+//!   one call; of each opening its first actions as a reply and the replies, one behind the other, and behind them `fault NUMBER`
+//!   where a step failed, or what `open` answers where it failed. It leaves no node open
 //! - of the node that is open `current_view`, `last_finalized`, `is_failed`
 //! - `bytes`: closes the node that is open, and tells what the disk holds; `disk BYTES`: closes it, and puts a disk that
 //!   holds these in the place of its own; while no node is open `fuse CALLS` and `fail_at CALLS`: calls of the disk fail
@@ -21,6 +24,7 @@
 
 mod desk;
 mod faults;
+mod lives;
 mod medium;
 mod member;
 mod seat;
@@ -31,6 +35,6 @@ mod turns;
 pub use desk::play_on;
 pub use medium::Medium;
 pub use member::{Answers, Member};
-pub use seat::Seat;
+pub use seat::{Life, Seat, Told};
 pub use setup::Setup;
 pub use turns::Turns;

@@ -2,6 +2,7 @@
 //! cost the prover several times as much.
 
 use crate::faults::{say_fault, say_io_fault, say_open_fault};
+use crate::lives::{read_lives, say_life};
 use crate::medium::Medium;
 use crate::seat::Seat;
 use crate::setup::Setup;
@@ -73,8 +74,8 @@ where
         let now = words.number()?;
         words.end()?;
         self.close();
-        let scheme = S::member_of(say.alloc, self.setup.members, self.setup.me, 0)?;
-        self.open_as(Rc::new(say.alloc, scheme)?, now, say)
+        let scheme = self.setup.scheme(say.alloc)?;
+        self.open_as(scheme, now, say)
     }
 
     /// Opens the disk as this member.
@@ -151,6 +152,36 @@ where
             Ok(()) => Ok(()),
             Err(fault) => say_io_fault(fault, say),
         }
+    }
+
+    /// `live NOW EVENTS NOW EVENTS ..`: what each opening answered, with ` , ` between two.
+    fn live(&mut self, words: &mut Words<'_>, say: &mut Say) -> Result<(), Trouble> {
+        let lives = read_lives(&self.setup, words, say.alloc)?;
+        self.close();
+        let Some(disk) = self.disk.take() else {
+            return Err(Trouble::Condition);
+        };
+        match T::live(say.alloc, &self.setup, lives, disk) {
+            Ok((answers, disk)) => {
+                self.disk = Some(disk);
+                Self::say_lives(answers, say)
+            }
+            Err(disk) => {
+                self.disk = Some(disk);
+                Err(Trouble::Memory)
+            }
+        }
+    }
+
+    /// What openings answered, or `-` for none.
+    fn say_lives(answers: Vec<T::Answered>, say: &mut Say) -> Result<(), Trouble> {
+        if answers.is_empty() {
+            return say.none();
+        }
+        for answer in answers {
+            say_life(T::told(answer), say)?;
+        }
+        Ok(())
     }
 
     /// `disk BYTES`.
@@ -233,6 +264,7 @@ where
             "event" => self.event(words, say),
             "times" => self.times(words, say),
             "stream" => self.stream(words, say),
+            "live" => self.live(words, say),
             "disk" | "bytes" | "fuse" | "fail_at" => self.hold(name, words, say),
             _ => self.ask(name, words, say),
         }

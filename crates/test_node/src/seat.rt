@@ -6,9 +6,36 @@ use std::alloc::Global;
 use std::rc::Rc;
 use types_core::View;
 
+/// What a node is opened with, and what it is handed then.
+#[derive(Drop)]
+pub struct Life<C: Drop, S: Drop, E: Drop> {
+    /// How the node is set up.
+    pub config: C,
+    /// The member's scheme.
+    pub scheme: Rc<S>,
+    /// The moment of the opening, in milliseconds.
+    pub now: u64,
+    /// The events, one after another.
+    pub events: Vec<E>,
+}
+
+/// What a node that was opened answered.
+#[derive(Drop)]
+pub struct Told<A: Drop, R: Drop> {
+    /// Its first actions.
+    pub first: Vec<A>,
+    /// The replies.
+    pub replies: Vec<R>,
+    /// Why it ended before all events were answered.
+    pub fault: Option<NodeFault>,
+}
+
 /// How a script opens an `N`, a node over its disk `K` with the scheme `S` and a configuration `C`, and has it answer an event `E`
 /// by a reply `R`; its first actions are of `A`.
-pub trait Seat<C, S, K, N, E, A, R> {
+pub trait Seat<C: Drop, S: Drop, K, N, E: Drop, A: Drop, R: Drop> {
+    /// What an opening among others answered, and the steps behind it.
+    type Answered: Drop;
+
     /// Opens the disk at a moment, in milliseconds, as this member: the node and its first actions, or why there is none, and the
     /// disk.
     fn open(
@@ -31,6 +58,18 @@ pub trait Seat<C, S, K, N, E, A, R> {
         events: &[u8],
         replies: &mut Vec<u8>,
     ) -> Result<(), IoFault>;
+
+    /// Lives these on the disk, one after another: what each opening answered, and the disk. The disk alone where memory ran out
+    /// before any was opened.
+    fn live(
+        alloc: Global,
+        setup: &Setup,
+        lives: Vec<Life<C, S, E>>,
+        disk: K,
+    ) -> Result<(Vec<Self::Answered>, K), K>;
+
+    /// What that was, or why there was no node.
+    fn told(answered: Self::Answered) -> Result<Told<A, R>, OpenFault>;
 
     /// The current view.
     fn current_view(node: &N) -> View;

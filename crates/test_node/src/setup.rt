@@ -1,6 +1,8 @@
 //! How the member of a script is set up.
 
-use test_words::{Trouble, Words};
+use std::alloc::Global;
+use std::rc::Rc;
+use test_words::{Committee, Trouble, Words};
 use types_core::{Epoch, Participant, Sha256Digest, TermLength, ViewDelta};
 use types_terms::RoundRobin;
 use voter_rules::config::{Config, ForwardPolicy, SkipBudget, SkipPolicy};
@@ -124,6 +126,12 @@ impl Setup {
             forward,
             tracks,
         })
+    }
+
+    /// The member's scheme.
+    pub(crate) fn scheme<S: Committee>(&self, alloc: Global) -> Result<Rc<S>, Trouble> {
+        let scheme = S::member_of(alloc, self.members, self.me, 0)?;
+        Ok(Rc::new(alloc, scheme)?)
     }
 
     /// How members lead in turn.

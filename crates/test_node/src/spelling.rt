@@ -35,9 +35,40 @@ pub(crate) fn event_of(
     members: u32,
 ) -> Result<Event<Sha256Digest>, Trouble> {
     let mut rest = bytes;
-    match read_event(alloc, &mut rest, members) {
-        Ok(event) if rest.is_empty() => Ok(event),
+    let event = next_event(alloc, &mut rest, members)?;
+    if rest.is_empty() {
+        Ok(event)
+    } else {
+        Err(Trouble::Unreadable)
+    }
+}
+
+/// The events that the bytes spell, one behind the other.
+pub(crate) fn events_of(
+    alloc: Global,
+    bytes: &[u8],
+    members: u32,
+) -> Result<Vec<Event<Sha256Digest>>, Trouble> {
+    let mut rest = bytes;
+    let mut events = Vec::new(alloc);
+    for _ in 0..u64::MAX {
+        if rest.is_empty() {
+            break;
+        }
+        events.push(next_event(alloc, &mut rest, members)?)?;
+    }
+    Ok(events)
+}
+
+/// The event at the front.
+fn next_event(
+    alloc: Global,
+    rest: &mut &[u8],
+    members: u32,
+) -> Result<Event<Sha256Digest>, Trouble> {
+    match read_event(alloc, rest, members) {
+        Ok(event) => Ok(event),
         Err(CodecError::Memory) => Err(Trouble::Memory),
-        _ => Err(Trouble::Unreadable),
+        Err(_) => Err(Trouble::Unreadable),
     }
 }

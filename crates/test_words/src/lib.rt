@@ -49,10 +49,11 @@
 //! # Words that are said
 //!
 //! `Say` has the allocator as `say.alloc`, and appends to the line: `text`, `gap` (a blank), `none` (`-`), `ok`,
-//! `number`, `optional`, `truth`, `member`, `members`, `numbers`, `key`, `key_or`, `view`, `round`, `payload`,
-//! `payload_or`, `proposal`, `proposal_or`, `context`, `bytes` (hexadecimal), `value` (a value's spelling, so),
-//! `fault` (of reading a value: `End`, `Invalid`, `TooLong`), `sum_of` (length and sum of bytes), `attestation`
-//! (`SIGNER SUM`), `attestations` (`SIGNERS SUM`). The sum of bytes goes `s = (s * 31 + byte) % 65521`, from 0.
+//! `quoted` (a text in quotes, on one line), `number`, `optional`, `truth`, `member`, `members`, `numbers`, `key`,
+//! `key_or`, `view`, `round`, `payload`, `payload_or`, `proposal`, `proposal_or`, `context`, `bytes` (hexadecimal),
+//! `value` (a value's spelling, so), `fault` (of reading a value: `End`, `Invalid`, `TooLong`), `sum_of` (length
+//! and sum of bytes), `attestation` (`SIGNER SUM`), `attestations` (`SIGNERS SUM`). The sum of bytes goes
+//! `s = (s * 31 + byte) % 65521`, from 0.
 //!
 //! # Committees
 //!

@@ -8,6 +8,9 @@ use types_core::{
     Signature, View, Write,
 };
 
+/// A text of more bytes is told by its length and its sum.
+const LONGEST_TEXT: usize = 1_000;
+
 /// The line that answers a call.
 #[derive(Drop)]
 pub struct Say {
@@ -39,6 +42,26 @@ impl Say {
     pub fn text(&mut self, text: &str) -> Result<(), Trouble> {
         self.line.push_str(text)?;
         Ok(())
+    }
+
+    /// Bytes as a text in quotes with `\n` for each newline; as hexadecimal digits where they are no text.
+    pub fn quoted(&mut self, bytes: &[u8]) -> Result<(), Trouble> {
+        if bytes.len() > LONGEST_TEXT {
+            return self.sum_of(bytes);
+        }
+        let Ok(text) = str::from_utf8(bytes) else {
+            return self.bytes(bytes);
+        };
+        let mut line = String::new(self.alloc);
+        for sign in text.chars() {
+            match sign {
+                '\n' => line.push_str("\\n")?,
+                _ => line.push(sign)?,
+            }
+        }
+        self.text("\"")?;
+        self.text(&line)?;
+        self.text("\"")
     }
 
     /// What stands between two words.

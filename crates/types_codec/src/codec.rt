@@ -1,6 +1,6 @@
 //! Values as bytes: each value has one spelling, and reading stops at the first trouble from the left.
 
-ghost use Rattle.std.specs.Prelude.{◌≡◌, ◌++◌, ℕ, ◌<◌, ◌≤◌, ◌^◌, List, Result, Ok, Err, length, IfOk, IfSome, IfNone, OnOk, OnErr, take, vec_len};
+ghost use Rattle.std.specs.Prelude.{◌≡◌, ◌++◌, ℕ, ◌<◌, ◌≤◌, ◌^◌, List, Result, Ok, Err, length, IfOk, IsErrOf, IfSome, IfNone, OnOk, OnErr, take, vec_len};
 ghost use Rattle.types_codec.specs.Codec.{Gives, IsCodec, Readable, SpellsNone, bytes_at};
 ghost use Rattle.types_codec.specs.declared.codec.CodecError.{CodecError};
 ghost use Rattle.types_codec.specs.declared.codec.CodecError.TheVariants.{End, Memory};
@@ -154,7 +154,8 @@ pub fn take_bytes<const N: usize>(input: &mut &[u8]) -> Option<[u8; N]>
 
 /// Reads so many bytes as they are.
 pub fn read_bytes<const N: usize>(input: &mut &[u8]) -> Result<[u8; N], CodecError>
-    ensures { Gives (bytes_at N) input.old.now input.new.now result }
+    ensures gives { Gives (bytes_at N) input.old.now input.new.now result }
+    ensures without_memory { ¬ IsErrOf result CodecError.Memory }
 {
     take_bytes(input).ok_or(CodecError::End)
 }

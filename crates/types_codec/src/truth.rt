@@ -1,8 +1,8 @@
 //! Truth values as bytes.
 
-ghost use Rattle.std.specs.Prelude.{⊤};
+ghost use Rattle.std.specs.Prelude.{⊤, IsErrOf};
 ghost use Rattle.std.proofs.Common.{rules};
-ghost use Rattle.types_codec.specs.Codec.{unbounded-IsCodec};
+ghost use Rattle.types_codec.specs.Codec.{Gives, unbounded-IsCodec};
 ghost use Rattle.types_codec.specs.Truth.{truth_spelling, truth_at, truth-IsCodec};
 
 use crate::codec::{CodecError, EncodeSize, MaxEncodeSize, Read, Write};
@@ -49,7 +49,10 @@ impl Read for bool {
     ghost grows = { λ n m x up h. h };
 
     #[tactic(auto, unfolding(crate::specs::Truth::truth_at))]
-    fn read_cfg(_alloc: Global, input: &mut &[u8], _bound: u32) -> Result<Self, CodecError> {
+    fn read_cfg(_alloc: Global, input: &mut &[u8], _bound: u32) -> Result<Self, CodecError>
+        ensures gives { Gives truth_at input.old.now input.new.now result }
+        ensures without_memory { ¬ IsErrOf result CodecError.Memory }
+    {
         let all: &[u8] = *input;
         match all {
             [] => Err(CodecError::End),

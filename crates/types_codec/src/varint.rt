@@ -1,6 +1,6 @@
 //! Numbers in groups of seven bits, the least significant group first, in the shortest form.
 
-ghost use Rattle.std.specs.Prelude.{◌≡◌, ◌↔◌, ◌++◌, ◌≤◌, ℕ, List, length, IfOk, OnOk, OnErr, take, vec_len};
+ghost use Rattle.std.specs.Prelude.{◌≡◌, ◌↔◌, ◌++◌, ◌≤◌, ℕ, List, length, IfOk, IsErrOf, OnOk, OnErr, take, vec_len};
 ghost use Rattle.types_codec.specs.Codec.{Gives, MatchesReading};
 ghost use Rattle.types_codec.specs.Varint.{IsVarint, varint_at, varint, max_u32, max_u64};
 
@@ -19,6 +19,7 @@ const MOST_OF_THREE: u64 = 2_097_151;
 pub(crate) fn varint_of(most: u64, bytes: &[u8]) -> Result<(u64, &[u8]), CodecError>
     ensures exact { MatchesReading (λ x. (x.0, x.1.now)) result (varint_at most bytes.now) }
     ensures within { IfOk result (λ x. x.0 ≤ most) }
+    ensures without_memory { ¬ IsErrOf result CodecError.Memory }
 {
     match bytes {
         [a, rest @ ..] if *a < 128 && u64::from(*a) <= most => Ok((u64::from(*a), rest)),
@@ -39,6 +40,7 @@ pub(crate) fn varint_of(most: u64, bytes: &[u8]) -> Result<(u64, &[u8]), CodecEr
 fn long_varint_of(most: u64, bytes: &[u8]) -> Result<(u64, &[u8]), CodecError>
     ensures exact { MatchesReading (λ x. (x.0, x.1.now)) result (varint_at most bytes.now) }
     ensures within { IfOk result (λ x. x.0 ≤ most) }
+    ensures without_memory { ¬ IsErrOf result CodecError.Memory }
 {
     match bytes {
         [] => Err(CodecError::End),
@@ -65,7 +67,8 @@ fn long_varint_of(most: u64, bytes: &[u8]) -> Result<(u64, &[u8]), CodecError>
 
 /// Reads a number of 64 bits.
 pub fn read_u64(input: &mut &[u8]) -> Result<u64, CodecError>
-    ensures { Gives (varint_at max_u64) input.old.now input.new.now result }
+    ensures gives { Gives (varint_at max_u64) input.old.now input.new.now result }
+    ensures without_memory { ¬ IsErrOf result CodecError.Memory }
 {
     let (number, rest) = varint_of(u64::MAX, input)?;
     *input = rest;
@@ -74,7 +77,8 @@ pub fn read_u64(input: &mut &[u8]) -> Result<u64, CodecError>
 
 /// Reads a number of 32 bits.
 pub fn read_u32(input: &mut &[u8]) -> Result<u32, CodecError>
-    ensures { Gives (varint_at max_u32) input.old.now input.new.now result }
+    ensures gives { Gives (varint_at max_u32) input.old.now input.new.now result }
+    ensures without_memory { ¬ IsErrOf result CodecError.Memory }
 {
     let (number, rest) = varint_of(u64::from(u32::MAX), input)?;
     *input = rest;

@@ -1,8 +1,8 @@
 //! Positions as bytes.
 
-ghost use Rattle.std.specs.Prelude.{◌≤◌, ⊤};
+ghost use Rattle.std.specs.Prelude.{◌≤◌, ⊤, IsErrOf};
 ghost use Rattle.std.proofs.Common.{rules};
-ghost use Rattle.types_codec.specs.Codec.{unbounded-IsCodec};
+ghost use Rattle.types_codec.specs.Codec.{Gives, unbounded-IsCodec};
 ghost use Rattle.types_codec.specs.Varint.{varint, varint_at, varint-IsCodec, max_u32, max_u64};
 ghost use Rattle.types_core.specs.Round.{round_fits, round_spelling, round_at, round-IsCodec};
 
@@ -48,7 +48,10 @@ impl Read for Epoch {
 
     ghost grows = { λ n m x up h. h };
 
-    fn read_cfg(_alloc: Global, input: &mut &[u8], _bound: u32) -> Result<Self, CodecError> {
+    fn read_cfg(_alloc: Global, input: &mut &[u8], _bound: u32) -> Result<Self, CodecError>
+        ensures gives { Gives (varint_at max_u64) input.old.now input.new.now result }
+        ensures without_memory { ¬ IsErrOf result CodecError.Memory }
+    {
         Ok(Epoch::new(read_u64(input)?))
     }
 }
@@ -88,7 +91,10 @@ impl Read for View {
 
     ghost grows = { λ n m x up h. h };
 
-    fn read_cfg(_alloc: Global, input: &mut &[u8], _bound: u32) -> Result<Self, CodecError> {
+    fn read_cfg(_alloc: Global, input: &mut &[u8], _bound: u32) -> Result<Self, CodecError>
+        ensures gives { Gives (varint_at max_u64) input.old.now input.new.now result }
+        ensures without_memory { ¬ IsErrOf result CodecError.Memory }
+    {
         Ok(View::new(read_u64(input)?))
     }
 }
@@ -128,7 +134,10 @@ impl Read for Participant {
 
     ghost grows = { λ n m x up h. h };
 
-    fn read_cfg(_alloc: Global, input: &mut &[u8], _bound: u32) -> Result<Self, CodecError> {
+    fn read_cfg(_alloc: Global, input: &mut &[u8], _bound: u32) -> Result<Self, CodecError>
+        ensures gives { Gives (varint_at max_u32) input.old.now input.new.now result }
+        ensures without_memory { ¬ IsErrOf result CodecError.Memory }
+    {
         Ok(Participant::new(read_u32(input)?))
     }
 }
@@ -169,7 +178,10 @@ impl Read for Round {
 
     ghost grows = { λ n m x up h. h };
 
-    fn read_cfg(alloc: Global, input: &mut &[u8], bound: u32) -> Result<Self, CodecError> {
+    fn read_cfg(alloc: Global, input: &mut &[u8], bound: u32) -> Result<Self, CodecError>
+        ensures gives { Gives round_at input.old.now input.new.now result }
+        ensures without_memory { ¬ IsErrOf result CodecError.Memory }
+    {
         let mut rest = *input;
         let epoch = Epoch::read_cfg(alloc, &mut rest, bound)?;
         let view = View::read_cfg(alloc, &mut rest, bound)?;

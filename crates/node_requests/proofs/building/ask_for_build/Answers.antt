@@ -31,3 +31,9 @@ returns-in-None-clause-acts g c = λ repair s h keeps.
     let f = formats g.D.PartialEq.eq g.D.Write.spelling g.S.Signature.Write.spelling g.S.Certificate.Write.spelling g.D.Read.reading g.S.Signature.Read.reading g.S.Certificate.Read.reading (g.S.Scheme.size s.voter.scheme) in
     nothing_asked g.S.Scheme g.L.Elector f s is_none (NoBuildToAsk g.S.Scheme f s) c.try_propose.new.self c.args.tables.now h c.args.out.now.items
     (λ has. c.in-None.ensures.answer s.voter (voter_of s h) keeps.voter_is) (c.in-None.ensures.keeps s.voter (voter_of s h) keeps.voter_is) keeps.tables_are
+
+-- a build was due
+pub returns-in-Err-clause-without_memory : goal.returns-in-Err-clause-without_memory
+returns-in-Err-clause-without_memory g c = λ repair s h keeps none.
+    let first = (c.in-Some.ensures.answer s.voter (voter_of s h) keeps.voter_is).0 in
+    absurd (none ((c.has_number.ensures (finalized_of s h) h keeps.tables_are).0 c.if-not-has_number.false) _ _ _ first.due)

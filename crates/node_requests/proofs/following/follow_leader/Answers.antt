@@ -39,3 +39,8 @@ returns-clause-follows g c = λ s h f me now k a.
     let long : 0 < s.voter.length = rw (c.lookahead.ensures.length s.voter (voter_of s h) (c.views-2.ensures s.voter (voter_of s h) k)) at c.get-views.ensures.at_least_one in
     let bare = c.in_default.ensures.tracked s.voter (voter_of s h) (c.views-in-views.ensures s.voter (voter_of s h) kept) in
     (none_at_all g.S.Scheme f s h long (λ view some. c.kept_votes_came_up.ensures s c.args.acceptance.now h view a some) (none_to g.S.Scheme f s h c.views.next (2 ^ 64) none bare), kept)
+
+pub returns-in-Err-clause-without_memory : goal.returns-in-Err-clause-without_memory
+returns-in-Err-clause-without_memory g c = λ s h f me now k a stay.
+    let (none, kept) = c.views.invariant s h f me now k a in
+    absurd (cc (c.in-Err.ensures.without_memory s h f me kept a (stay c.in-Some.view)))

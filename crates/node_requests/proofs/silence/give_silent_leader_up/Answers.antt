@@ -51,3 +51,14 @@ returns-in-Ok-false-clause-acts g c = λ repair s h keeps of actions.
     (later_is_no_reason g.S.Scheme f s h (λ first. false≢true (sym c.in-Ok-false.field-0-test
     ∙ (c.in-Ok-false.ensures.answer s.voter v keeps.voter_is).1 (subst (λ (u : ℕ). IsFirstLatch s.voter v u reason.Inactivity) (sym view) first))))
     (c.in-Ok-false.ensures.unchanged c.in-Ok-false.field-0-test s.voter v keeps.voter_is) keeps.tables_are
+
+-- the leader is silent
+pub returns-in-Err-clause-without_memory : goal.returns-in-Err-clause-without_memory
+returns-in-Err-clause-without_memory g c = λ repair s h keeps of heard.
+    let f = formats g.D.PartialEq.eq g.D.Write.spelling g.S.Signature.Write.spelling g.S.Certificate.Write.spelling g.D.Read.reading g.S.Signature.Read.reading g.S.Certificate.Read.reading (g.S.Scheme.size s.voter.scheme) in
+    let fits = latest_fits g.S.Scheme f s h keeps.begun keeps.allowed in
+    let from = subst (λ (o : Option ℕ). IsSilentFrom g.S.Scheme f s h o) c.in-Some.is (c.silent_from.ensures repair s h keeps of) in
+    let at = c.moment-now.ensures (finalized_of s h) h keeps.tables_are in
+    let passed = c.if-now-moment.false in
+    let late : c.in-Some.moment ≤ latest h = omega (arith, at, passed) in
+    absurd (heard ((from (latest h) fits).1 late))

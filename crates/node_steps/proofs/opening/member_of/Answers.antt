@@ -17,21 +17,36 @@ returns-in-Err-clause-fault g c =
 pub returns-then-longest_timeout-now-clause-fault : goal.returns-then-longest_timeout-now-clause-fault
 returns-then-longest_timeout-now-clause-fault g c =
     let s = setup_of g.S.Scheme g.L.Elector c.args.config.now c.args.scheme.now c.args.elector.now 0 in
-    let long : c.longest_timeout.result ≡ longest_timeout s = rw c.terms.ensures at c.longest_timeout.ensures in
+    let long : c.longest_timeout.result ≡ longest_timeout s = rw c.terms-terms.ensures at c.longest_timeout.ensures in
     behind-config g.S.Scheme s c.args.config.now c.args.now (λ none. let own = c.in-Some.ensures.own in cc)
     (subst (λ (m : ℕ). (x : ConfigFault) → config.Applies c.args.config.now m x → ⊥) c.participants.ensures.value c.in-Ok.ensures.good)
     (Some open_fault.MomentTooLate)
     (inl (λ fits. too-long c.args.now c.longest_timeout.result c.if-longest_timeout-now.true (subst (λ (m : ℕ). c.args.now + m < 2 ^ 64) (sym long) fits), refl))
 
+pub returns-then-has_many_optimistic-clause-fault : goal.returns-then-has_many_optimistic-clause-fault
+returns-then-has_many_optimistic-clause-fault g c =
+    let s = setup_of g.S.Scheme g.L.Elector c.args.config.now c.args.scheme.now c.args.elector.now 0 in
+    let long : c.longest_timeout.result ≡ longest_timeout s = rw c.terms-terms.ensures at c.longest_timeout.ensures in
+    let many : 1000 < s.voter.optimistic_views = rw c.terms-terms.ensures at (c.has_many_optimistic.ensures.0 c.if-has_many_optimistic.true) in
+    let some : c.args.now < 2 ^ 64 = omega arith in
+    behind-config g.S.Scheme s c.args.config.now c.args.now (λ none. let own = c.in-Some.ensures.own in cc)
+    (subst (λ (m : ℕ). (x : ConfigFault) → config.Applies c.args.config.now m x → ⊥) c.participants.ensures.value c.in-Ok.ensures.good)
+    (Some open_fault.TooManyOptimistic)
+    (inr (λ late. late (subst (λ (m : ℕ). c.args.now + m < 2 ^ 64) long (long-enough c.args.now c.longest_timeout.result some c.if-longest_timeout-now.false)), inl (many, refl)))
+
 pub returns-clause-good : goal.returns-clause-good
 returns-clause-good g c =
     let s = setup_of g.S.Scheme g.L.Elector c.args.config.now c.args.scheme.now c.args.elector.now 0 in
-    let long : c.longest_timeout.result ≡ longest_timeout s = rw c.terms.ensures at c.longest_timeout.ensures in
+    let long : c.longest_timeout.result ≡ longest_timeout s = rw c.terms-terms.ensures at c.longest_timeout.ensures in
+    let few = rw c.terms-terms.ensures at c.has_many_optimistic.ensures in
     let some : c.args.now < 2 ^ 64 = omega arith in
     behind-config g.S.Scheme s c.args.config.now c.args.now (λ none. let own = c.in-Some.ensures.own in cc)
     (subst (λ (m : ℕ). (x : ConfigFault) → config.Applies c.args.config.now m x → ⊥) c.participants.ensures.value c.in-Ok.ensures.good)
     None
-    (inr (λ late. late (subst (λ (m : ℕ). c.args.now + m < 2 ^ 64) long (long-enough c.args.now c.longest_timeout.result some c.if-longest_timeout-now.false)), refl))
+    (inr (
+      λ late. late (subst (λ (m : ℕ). c.args.now + m < 2 ^ 64) long (long-enough c.args.now c.longest_timeout.result some c.if-longest_timeout-now.false)),
+      inr (λ many. absurd (cc (few.1 many, c.if-has_many_optimistic.false)), refl),
+    ))
 
 -- acts end: by the scheme its index is a member's, by the elector members lead, terms have views, and the configuration's retry isn't 0
 pub returns-clause-ends : goal.returns-clause-ends
@@ -44,7 +59,7 @@ returns-clause-ends g c = λ built. record {
       own = sym c.in-Some.ensures.own;
       named = λ view certificate. g.met.L.Elector.participants_lead c.args.elector.now (g.S.Scheme.size c.args.scheme.now) (record { epoch = c.args.config.now.epoch; view = view }) certificate built;
     };
-    terms = let same : c.length-length.result ≡ (g.L.Elector.terms_of c.args.elector.now).length = rw c.terms-2.ensures at c.length-length.ensures in let some = c.length-length.type_inv in omega (arith, same, some);
+    terms = let same : c.length-length.result ≡ (g.L.Elector.terms_of c.args.elector.now).length = rw c.terms-terms.ensures at c.length-length.ensures in let some = c.length-length.type_inv in omega (arith, same, some);
     retries = ⊎_elim (λ some. some) (λ none. absurd (c.in-Ok.ensures.good config_fault.RetryZero (omega (arith, none)))) (cases_lt 0 c.args.config.now.timeout_retry);
   };
 }

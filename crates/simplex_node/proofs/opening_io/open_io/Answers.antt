@@ -21,3 +21,19 @@ returns-in-Ok-clause-opening g c = record {
   any_moment = c.in-Ok.ensures.any_moment;
   any_moment_of_a_fault = tt;
 }
+
+-- none is: all that the opening promises of its fault is passed on
+pub returns-in-Err-clause-opening : goal.returns-in-Err-clause-opening
+returns-in-Err-clause-opening g c = record {
+  told_early = c.in-Err.ensures.early;
+  none_early = tt;
+  told_later = c.in-Err.ensures.later;
+  foreign = c.in-Err.ensures.foreign;
+  contradiction = c.in-Err.ensures.contradiction;
+  untouched = c.in-Err.ensures.untouched;
+  device = c.in-Err.ensures.device;
+  no_device = c.in-Err.ensures.no_device;
+  no_fault = tt;
+  any_moment = tt;
+  any_moment_of_a_fault = c.in-Err.ensures.any_moment_of_a_fault;
+}

@@ -1,0 +1,35 @@
+-- What a program comes to that runs by the index, the committee and the leaders of its settings.
+use Rattle.std.proofs.Common.{◌≡◌, ◌⊎◌, inl, inr, sym, ap, ◌∙◌, subst, refl, ℕ, List, Option, Some}
+use Rattle.std.specs.Prelude.{Result, Err, unwrap_or, ⊤}
+use Rattle.types_terms.specs.Rotation.{Rotation}
+use Rattle.simplex_types.specs.Plain as plain
+use Rattle.simplex_member.specs.declared.fault.IoFault.{IoFault}
+use Rattle.simplex_member.specs.declared.fault.OpenFault.{OpenFault}
+use Rattle.cli_settings.specs.declared.setting.Committee.{Committee}
+use Rattle.simplex_cli.specs.declared.ending.Ending.{Ending}
+use Rattle.simplex_cli.specs.declared.ending.Ending.TheVariants as ending
+use Rattle.simplex_cli.specs.Serving.{ended_of}
+use Rattle.cli_member.specs.Members.{AreLeaders}
+
+some-is : {X : Type 0} (x y : X) → Some x ≡ Some y → x ≡ y
+some-is x y e = ap (λ o. unwrap_or o x) e
+
+-- a committee is what its base, its size and the own index are
+pub committee_is : (v : plain.Committee) (base : List ℕ) (count : ℕ) (me : Option ℕ) → v.base ≡ base → v.participants ≡ count → v.me ≡ me
+    → v ≡ record { base = base; participants = count; me = me }
+committee_is v base count me b n m =
+    subst (λ (x : List ℕ). v ≡ record { base = x; participants = count; me = me }) b
+    (subst (λ (x : ℕ). v ≡ record { base = v.base; participants = x; me = me }) n
+    (subst (λ (x : Option ℕ). v ≡ record { base = v.base; participants = v.participants; me = x }) m refl))
+
+-- no record was opened, or the node ran by the index that its scheme has
+pub comes_by : (own : Option ℕ) (member : ℕ) (ended : Result ⊤ Ending) (Untouched : Type 0) (c : Committee) (leaders : Rotation) (Run : Rotation → Result ⊤ IoFault → ℕ → Type 0)
+    → own ≡ Some member → AreLeaders c leaders
+    → ((why : OpenFault) × (ended ≡ Err (ending.Open why)) × Untouched)
+    ⊎ ((io : Result ⊤ IoFault) × (index : ℕ) × (ended ≡ ended_of io) × (own ≡ Some index) × Run leaders io index)
+    → (((ended ≡ Err ending.Memory) ⊎ ((why : OpenFault) × (ended ≡ Err (ending.Open why)))) × Untouched)
+    ⊎ ((led : Rotation) × AreLeaders c led × ((io : Result ⊤ IoFault) × (ended ≡ ended_of io) × Run led io member))
+comes_by own member ended Untouched c leaders Run mine led (inl (why, is, same)) = inl (inr (why, is), same)
+comes_by own member ended Untouched c leaders Run mine led (inr (io, index, is, owns, run)) =
+    let same : index ≡ member = some-is index member (sym owns ∙ mine) in
+    inr (leaders, led, io, is, subst (λ (n : ℕ). Run leaders io n) same run)

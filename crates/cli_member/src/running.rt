@@ -1,0 +1,114 @@
+//! A member over a disk and streams, set up by its settings.
+
+ghost use Rattle.std.specs.Prelude.{◌≡◌, ◌⊎◌, Result, false, ⊤};
+ghost use Rattle.journal_single.specs.Disk.{counted};
+ghost use Rattle.node_wire.specs.Streaming.{spelled};
+ghost use Rattle.cli_settings.specs.Building.{config_of};
+ghost use Rattle.cli_settings.specs.Checking.{IsGood};
+ghost use Rattle.cli_opening.specs.declared.looking.Barred.{Barred};
+ghost use Rattle.cli_member.specs.Members.{IsLeft, IsRun, MemberComesTo, committee_of};
+ghost use Rattle.simplex_cli.specs.declared.ending.Ending.{Ending};
+ghost use Rattle.simplex_cli.specs.Serving.{AreTold, status_of};
+ghost use Rattle.simplex_member.specs.Setup.{setup_of};
+
+use crate::looking::look_for;
+use cli_opening::say_found;
+use cli_record::left;
+use cli_settings::Settings;
+use journal_single::Disk;
+use node_wire::{Sink, Source};
+use simplex_cli::{Ending, serve_over, tell};
+use simplex_member::Speaks;
+use simplex_types::{AttestationList, PlainKey, PlainScheme, PlainSignature};
+use std::alloc::Global;
+use std::io::Write as Writes;
+use types_core::{Read, Scheme, Sha256Digest, Write};
+use types_terms::elector::{Elector, RoundRobinElector};
+
+/// What else may have been said of a record that isn't this member's.
+const ASKED: &str = "other settings";
+
+/// Runs the member of these settings over a disk: opens its record at moment 0, writes what the opening hands out as a reply, then
+/// answers the events of `input` on `output`. How that ended, with the disk.
+pub fn drive_member<K: Disk, R: Source, W: Sink>(
+    alloc: Global,
+    settings: &Settings,
+    disk: K,
+    input: &mut R,
+    output: &mut W,
+) -> (Result<(), Ending>, K)
+    requires { IsGood settings.now }
+    ensures streams { AreTold result.0 (R.failed input.old) (R.failed input.new) (W.failed output.old) (W.failed output.new)
+        (W.is_flushed output.old) (W.is_flushed output.new) }
+    ensures comes_to { MemberComesTo ⟦<PlainScheme as Scheme<Sha256Digest>>⟧ K.Disk
+        (⟦<PlainScheme as Speaks<Sha256Digest>>⟧.formats settings.now.committee.members)
+        (λ leaders. setup_of ⟦<PlainScheme as Scheme<Sha256Digest>>⟧ ⟦<RoundRobinElector as Elector<PlainScheme, Sha256Digest>>⟧
+        (config_of settings.now) (committee_of settings.now) leaders settings.now.member)
+        ⟦<Sha256Digest as Write>⟧.fits ⟦<Sha256Digest as Write>⟧.spelling
+        (spelled ⟦<PlainKey as Write>⟧.spelling ⟦<Sha256Digest as Write>⟧.spelling ⟦<PlainSignature as Write>⟧.spelling
+        ⟦<AttestationList<PlainSignature> as Write>⟧.spelling) (⟦<Sha256Digest as Read>⟧.reading 65535) settings.now.committee
+        ⟦<PlainScheme as Speaks<Sha256Digest>>⟧.readable disk 0 (R.failed input.new ≡ counted false (R.failed input.old))
+        (output.new ≡ output.old) result.0 (R.remaining input.old) (W.contents output.old) (W.contents output.new) }
+{
+    let Ok(scheme) = settings.scheme(alloc) else {
+        return (Err(Ending::Memory), disk);
+    };
+    let Ok(elector) = settings.committee.elector(alloc) else {
+        return (Err(Ending::Memory), disk);
+    };
+    serve_over(
+        alloc,
+        settings.config(),
+        scheme,
+        elector,
+        disk,
+        0,
+        input,
+        output,
+    )
+}
+
+/// Looks at what a disk holds and says it on `faults`, and then runs the member of these settings over it, as [`drive_member`] does. The
+/// status, with the disk: 0 at the end of the input between two events, 3 where a place was named at which none stands, and 1 where
+/// something failed, each but 0 with a line on `faults`. What can't be this member's record, and where not `cuts` also what a crash
+/// doesn't leave, stays as it is, with words of why on `faults` and status 1. The disk is said to be the file at this path.
+pub fn member_over<K: Disk, R: Source, W: Sink, F: Writes>(
+    alloc: Global,
+    settings: &Settings,
+    path: &str,
+    cuts: bool,
+    disk: K,
+    input: &mut R,
+    output: &mut W,
+    faults: &mut F,
+) -> (u8, K)
+    requires { IsGood settings.now }
+    ensures statuses { (result.0 ≡ 0) ⊎ ((result.0 ≡ 1) ⊎ (result.0 ≡ 3)) }
+
+    // Either it was left as it is, and nothing was read or written, or it was found to be a record of the member, which then ran over it.
+    ensures comes_to { ((why : Barred) × (result.0 ≡ 1)
+        × IsLeft K.Disk settings.now cuts disk result.1 why path.now (F.contents faults.old) (F.contents faults.new)
+        × (input.new ≡ input.old) × (output.new ≡ output.old))
+        ⊎ ((on : K) × (ended : Result ⊤ Ending) × (result.0 ≡ status_of ended)
+        × IsRun K.Disk settings.now cuts disk on ended path.now (F.contents faults.old) (F.contents faults.new)
+        × AreTold ended (R.failed input.old) (R.failed input.new) (W.failed output.old) (W.failed output.new)
+        (W.is_flushed output.old) (W.is_flushed output.new)
+        × MemberComesTo ⟦<PlainScheme as Scheme<Sha256Digest>>⟧ K.Disk
+        (⟦<PlainScheme as Speaks<Sha256Digest>>⟧.formats settings.now.committee.members)
+        (λ leaders. setup_of ⟦<PlainScheme as Scheme<Sha256Digest>>⟧ ⟦<RoundRobinElector as Elector<PlainScheme, Sha256Digest>>⟧
+        (config_of settings.now) (committee_of settings.now) leaders settings.now.member)
+        ⟦<Sha256Digest as Write>⟧.fits ⟦<Sha256Digest as Write>⟧.spelling
+        (spelled ⟦<PlainKey as Write>⟧.spelling ⟦<Sha256Digest as Write>⟧.spelling ⟦<PlainSignature as Write>⟧.spelling
+        ⟦<AttestationList<PlainSignature> as Write>⟧.spelling) (⟦<Sha256Digest as Read>⟧.reading 65535) settings.now.committee
+        ⟦<PlainScheme as Speaks<Sha256Digest>>⟧.readable on 0 (R.failed input.new ≡ counted false (R.failed input.old))
+        (output.new ≡ output.old) ended (R.remaining input.old) (W.contents output.old) (W.contents output.new)) }
+{
+    let mut disk = disk;
+    let found = match look_for(alloc, settings, cuts, &mut disk) {
+        Ok(found) => found,
+        Err(barred) => return (left(alloc, path, ASKED, barred, faults), disk),
+    };
+    say_found(alloc, path, found, faults);
+    let (ended, disk) = drive_member(alloc, settings, disk, input, output);
+    (tell(alloc, ended, faults), disk)
+}
