@@ -1,5 +1,5 @@
 -- Rows of votes, one a signer.
-use Rattle.std.proofs.Common.{◌≡◌, ◌≤◌, ◌<◌, ◌+◌, ◌==◌, ◌&&◌, ◌||◌, inl, inr, ℕ, zero, suc, Bool, true, false, not, cond, List, [], ◌∷◌, ◌++◌, map, length, get_or, set, refl, ap, sym, ◌∙◌, arith, append-nil, length-append, length-set}
+use Rattle.std.proofs.Common.{◌≡◌, ◌≤◌, ◌<◌, ◌+◌, ◌==◌, ◌&&◌, ◌||◌, ◌⊎◌, inl, inr, ℕ, zero, suc, Bool, true, false, not, cond, List, [], ◌∷◌, ◌++◌, map, length, get_or, set, refl, ap, sym, ◌∙◌, arith, append-nil, length-append, length-set}
 use Rattle.std.specs.declared.vec.Vec.{Vec}
 use Rattle.std.specs.declared.alloc.Global.{Global}
 use Rattle.std.specs.Prelude.{Result, Ok, Err, OnErr, Option, None, Some, filter, find, if◌then◌else◌}
@@ -119,7 +119,7 @@ module _ {S D P G C : Type 0} where
   its-place (vote.Finalize w) false i = refl
 
   -- what stands in its way is of its place
-  in-its-way : (v u : Vote S D P G C) → is_of (is_kind Notarization (vote_kind v)) (vote_signer v) u ≡ is_in_way v u
+  pub in-its-way : (v u : Vote S D P G C) → is_of (is_kind Notarization (vote_kind v)) (vote_signer v) u ≡ is_in_way v u
   in-its-way (vote.Notarize v) u = refl
   in-its-way (vote.Nullify v) u = refl
   in-its-way (vote.Finalize v) u = refl
@@ -142,6 +142,14 @@ module _ {S D P G C : Type 0} where
   vote-set b side (row ∷ rows) zero (suc i) x d t l e = let one : t ≡ false = sym e ∙ apart-first i in rw one (vote-past b side x.vote (vote_at side rows i))
   vote-set b side (row ∷ rows) (suc k) zero x d t l e = let one : t ≡ false = sym e ∙ apart-last k in rw one (vote-past b side x.vote (vote_at side (row ∷ rows) zero))
   vote-set b side (row ∷ rows) (suc k) (suc i) x d t l e = vote-set b side rows k i x d t (omega arith) (sym (same-suc k i) ∙ e)
+
+  -- what stands in rows to which one came stands there before, or in that one
+  vote-last : (side : Bool) (rows : List (Row S D P G C)) (row : Row S D P G C) (i : ℕ) (u : Vote S D P G C) → vote_at side (rows ++ row ∷ []) i ≡ Some u
+      → (vote_at side rows i ≡ Some u) ⊎ (option_map (λ (x : Held S D P G C). x.vote) (cell side row) ≡ Some u)
+  vote-last side [] row zero u e = inr e
+  vote-last side [] row (suc i) u e = absurd (cc e)
+  vote-last side (x ∷ rows) row zero u e = inl e
+  vote-last side (x ∷ rows) row (suc i) u e = vote-last side rows row i u e
 
   vote-append : (side : Bool) (rows more : List (Row S D P G C)) (i : ℕ) → i < length rows → vote_at side (rows ++ more) i ≡ vote_at side rows i
   vote-append side [] more i l = absurd (omega arith)
@@ -182,7 +190,7 @@ not-there p (y ∷ ys) x none (k, l, e) = go (p y) refl none k l e (λ n i m f. 
     go false is none (suc k) l e later = later none k (omega arith) e
 
 -- what is found passes
-found-passes : {X : Type 0} (p : X → Bool) (xs : List X) (x : X) → find p xs ≡ Some x → p x ≡ true
+pub found-passes : {X : Type 0} (p : X → Bool) (xs : List X) (x : X) → find p xs ≡ Some x → p x ≡ true
 found-passes p [] x e = absurd (cc e)
 found-passes p (y ∷ ys) x e = go (p y) refl e (found-passes p ys x)
   where
@@ -201,7 +209,7 @@ mark-is false false true = refl
 mark-is false false false = refl
 
 -- a vote's side is that of its kind
-side-same : (k v : Kind) → is_kind k v ≡ true → is_kind Notarization k ≡ is_kind Notarization v
+pub side-same : (k v : Kind) → is_kind k v ≡ true → is_kind Notarization k ≡ is_kind Notarization v
 side-same Notarization Notarization e = refl
 side-same Nullification Nullification e = refl
 side-same Finalization Finalization e = refl
@@ -316,6 +324,11 @@ module _ {S D P G C : Type 0} (members : ℕ) (votes : List (Vote S D P G C)) (v
       let b = is_kind Notarization (vote_kind v) in record {
         members_are = others.members_stay ∙ k.members_are;
         newest = λ side i m. rw is (vote-set b side mid.rows.items (vote_signer v) i (as-held v counts own) d (vote_signer v == i) l refl ∙ rw (its-place v side i, k.newest side i m) refl);
+        strangers = λ side i u m e.
+            let other : (vote_signer v == i) ≡ false = grind (arith, member, m) in
+            let same : vote_at side new.rows.items i ≡ vote_at side mid.rows.items i =
+            rw is (vote-set b side mid.rows.items (vote_signer v) i (as-held v counts own) d false l other ∙ sym (vote-past b side v (vote_at side mid.rows.items i))) in
+            k.strangers side i u m (sym same ∙ e);
       }
 
   -- no other row is a stranger's
@@ -328,8 +341,25 @@ module _ {S D P G C : Type 0} (members : ℕ) (votes : List (Vote S D P G C)) (v
   newest-stranger others stranger reached is = record {
     members_are = others.members_stay ∙ k.members_are;
     newest = λ side i m. rw (is, beyond side i stranger m) (go (is_aside (mark_of counts own)) side i m ∙ k.newest side i m);
+    strangers = λ side i u m e. far (is_aside (mark_of counts own)) side i u m (rw is at e);
   }
     where
+      lone-vote : (side : Bool) {u : Vote S D P G C} → option_map (λ (x : Held S D P G C). x.vote) (cell side (lone (as-held v counts own))) ≡ Some u → u ≡ v
+      lone-vote side e = which (is_kind Notarization (vote_kind v)) side e
+        where
+          which : (b side : Bool) {u : Vote S D P G C} → option_map (λ (x : Held S D P G C). x.vote) (cell side (with_cell b (as-held v counts own) (record { notarize = None; other = None }))) ≡ Some u → u ≡ v
+          which true true e = cc e
+          which false false e = cc e
+          which true false e = absurd (cc e)
+          which false true e = absurd (cc e)
+
+      far : (b : Bool) (side : Bool) (i : ℕ) (u : Vote S D P G C) → members ≤ i → vote_at side (if b then mid.rows.items else mid.rows.items ++ lone (as-held v counts own) ∷ []) i ≡ Some u → members ≤ vote_signer u
+      far true side i u m e = k.strangers side i u m e
+      far false side i u m e = elim (vote-last side mid.rows.items (lone (as-held v counts own)) i u e) [
+        | inl before ↦ k.strangers side i u m before
+        | inr mine ↦ let one : u ≡ v = lone-vote side mine in rw one stranger
+      ]
+
       go : (b : Bool) (side : Bool) (i : ℕ) → i < members → vote_at side (if b then mid.rows.items else mid.rows.items ++ lone (as-held v counts own) ∷ []) i ≡ vote_at side mid.rows.items i
       go true side i m = refl
       go false side i m = vote-append side mid.rows.items (lone (as-held v counts own) ∷ []) i (omega (arith, m, reached))
@@ -342,7 +372,11 @@ module _ {S D P G C : Type 0} (members : ℕ) (votes : List (Vote S D P G C)) (v
   ]
 
 pub put-newest : {S D P G C : Type 0} (members : ℕ) (votes : List (Vote S D P G C)) (wrote new : Rows S D P G C) → AreNewest wrote members votes → new.rows ≡ wrote.rows → new.members ≡ wrote.members → AreNewest new members votes
-put-newest members votes wrote new w is m = record { members_are = m ∙ w.members_are; newest = λ side i l. rw is (w.newest side i l) }
+put-newest members votes wrote new w is m = record {
+  members_are = m ∙ w.members_are;
+  newest = λ side i l. rw is (w.newest side i l);
+  strangers = λ side i u l e. w.strangers side i u l (rw is at e);
+}
 
 module _ {S D P G C : Type 0} (members : ℕ) (votes : List (Vote S D P G C)) (v : Vote S D P G C) (counts own : Bool) (kind : Kind) (complete : Bool) (wait known : List (Vote S D P G C)) where
   -- the kind's votes after it was written down

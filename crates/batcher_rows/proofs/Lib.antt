@@ -1,2 +1,3 @@
 pub mod Shuffling
 pub mod Holding
+pub mod Blocking

@@ -1,6 +1,6 @@
 -- Lists that are one in another order.
 use Rattle.std.proofs.Common.{◌≡◌, ℕ, zero, suc, ◌<◌, Bool, true, false, cond, List, [], ◌∷◌, length, get_or, set, swap, refl, subst, arith}
-use Rattle.std.specs.Prelude.{filter}
+use Rattle.std.specs.Prelude.{filter, find, None, Some}
 use Rattle.std.specs.List.Sorted.{IsPermutation}
 use Rattle.std.proofs.lemmas.List.Sorted.{IsPermutation-refl, IsPermutation-trans, IsPermutation-cons, IsPermutation-keeps, IsPermutation-middle, length_permutation}
 
@@ -56,3 +56,26 @@ module _ {X : Type 0} where
   pub empty-permutation : (ys : List X) → IsPermutation [] ys → ys ≡ []
   empty-permutation [] h = refl
   empty-permutation (y ∷ ys) h = absurd (omega (arith, length_permutation [] (y ∷ ys) h))
+
+module _ {X : Type 0} (p : X → Bool) where
+  abbrev FoundInNeither : List X → List X → Type 0
+  FoundInNeither xs ys = find p xs ≡ None → find p ys ≡ None
+
+  behind : (x : X) (xs ys : List X) → FoundInNeither xs ys → FoundInNeither (x ∷ xs) (x ∷ ys)
+  behind x xs ys rest = go (p x)
+    where
+      go : (c : Bool) → cond c (Some x) (find p xs) ≡ None → cond c (Some x) (find p ys) ≡ None
+      go true e = absurd (cc e)
+      go false e = rest e
+
+  exchanged_heads : (x y : X) (xs : List X) → FoundInNeither (x ∷ y ∷ xs) (y ∷ x ∷ xs)
+  exchanged_heads x y xs = go (p x) (p y)
+    where
+      go : (c d : Bool) → cond c (Some x) (cond d (Some y) (find p xs)) ≡ None → cond d (Some y) (cond c (Some x) (find p xs)) ≡ None
+      go true d e = absurd (cc e)
+      go false true e = absurd (cc e)
+      go false false e = e
+
+  -- what isn't found in a list is found in no other order of it
+  pub find_none-permuted : (xs ys : List X) → IsPermutation xs ys → find p xs ≡ None → find p ys ≡ None
+  find_none-permuted = along_permutation FoundInNeither (λ xs none. none) behind exchanged_heads (λ xs ys zs first second none. second (first none))

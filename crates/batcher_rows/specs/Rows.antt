@@ -1,5 +1,5 @@
 -- The votes of a round, as they are held: in a row for each signer.
-use Rattle.std.specs.Prelude.{◌≡◌, ◌<◌, ◌+◌, ℕ, Bool, true, false, not, ◌&&◌, List, [], ◌∷◌, ◌++◌, length, filter, find, Option, None, Some, if◌then◌else◌}
+use Rattle.std.specs.Prelude.{◌≡◌, ◌<◌, ◌≤◌, ◌+◌, ℕ, Bool, true, false, not, ◌&&◌, List, [], ◌∷◌, ◌++◌, length, filter, find, Option, None, Some, if◌then◌else◌}
 use Rattle.std.specs.List.{slice_get, filter_map}
 use Rattle.std.specs.List.Sorted.{IsPermutation}
 use Rattle.std.specs.Option.{option_map, option_and_then}
@@ -14,7 +14,7 @@ use Rattle.batcher_rows.specs.declared.rows.Held.{Held}
 use Rattle.batcher_rows.specs.declared.rows.Row.{Row}
 use Rattle.batcher_rows.specs.declared.rows.Tally.{Tally}
 use Rattle.batcher_rows.specs.declared.rows.Rows.{Rows}
-use Rattle.batcher_rows.specs.Votes.{is_kind, is_of, vote_kind}
+use Rattle.batcher_rows.specs.Votes.{is_in_way, is_kind, is_of, vote_kind}
 
 -- the mark of a vote that is known to attest, or of one that waits
 abbrev pub is_marked : Bool → Mark → Bool
@@ -123,10 +123,33 @@ module _ {S D P G C : Type 0} where
     pub waiting_count : (tally_at kind rows).waiting ≡ length wait
     pub verified_count : (tally_at kind rows).verified ≡ length sure
 
-  -- each member's row has its newest accepted votes, and no other member's
+  -- each member's row has its newest accepted votes, and no other member's; behind them stand strangers' votes alone
   pub record AreNewest (rows : Rows S D P G C) (members : ℕ) (votes : List (Vote S D P G C)) : Type 0 where
     pub members_are : members_of rows ≡ members
     pub newest : (notarize : Bool) (i : ℕ) → i < members → newest_of notarize rows i ≡ find (is_of notarize i) votes
+    pub strangers : (notarize : Bool) (i : ℕ) (u : Vote S D P G C) → members ≤ i → newest_of notarize rows i ≡ Some u → members ≤ vote_signer u
+
+  -- the vote of a cell counts, and stands in the way of this one
+  abbrev pub blocks_in : Vote S D P G C → Option (Held S D P G C) → Bool
+  blocks_in v None = false
+  blocks_in v (Some x) = not (is_aside x.mark) && is_in_way v x.vote
+
+  -- a vote of this row does
+  abbrev pub blocks : Vote S D P G C → Row S D P G C → Bool
+  blocks v row = blocks_in v (cell (is_kind Notarization (vote_kind v)) row)
+
+  -- the row of this place, if there is one, does
+  abbrev pub blocks_at : Vote S D P G C → Option (Row S D P G C) → Bool
+  blocks_at v None = false
+  blocks_at v (Some row) = blocks v row
+
+  -- no row behind those of the members does
+  abbrev pub StrangersFree : Vote S D P G C → Rows S D P G C → Type 0
+  StrangersFree v rows = (i : ℕ) → members_of rows ≤ i → blocks_at v (slice_get rows.rows.items i) ≡ false
+
+  -- no vote that counts stands in the way of this one
+  abbrev pub NoneInWay : Rows S D P G C → Vote S D P G C → Type 0
+  NoneInWay rows v = (sure : Bool) (kind : Kind) → find (is_in_way v) (votes_of sure kind rows) ≡ None
 
   -- the same votes stand in the same places
   pub record PlacesStay (old new : Rows S D P G C) : Type 0 where

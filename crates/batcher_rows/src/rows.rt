@@ -1,6 +1,6 @@
 //! The votes of one round, in a row for each signer.
 
-ghost use Rattle.std.specs.Prelude.{◌≡◌, ◌↔◌, ◌++◌, ◌||◌, IsTrue, All, ◌≤◌, ◌<◌, ◌+◌, ◌∷◌, ◌&&◌, [], ℕ, List, Bool, Option, Some, None, MatchOption, filter, find, map, not, length, is_none, option_map, IfOk, OnOk, OnErr, slice_index_or, slice_set, if◌then◌else◌, true, false};
+ghost use Rattle.std.specs.Prelude.{◌≡◌, ◌↔◌, ◌++◌, ◌||◌, IsTrue, All, ◌≤◌, ◌<◌, ◌+◌, ◌∷◌, ◌&&◌, [], ℕ, List, Bool, Option, Some, None, MatchOption, filter, find, map, not, length, is_none, option_map, IfOk, OnOk, OnErr, slice_get, slice_index_or, slice_set, if◌then◌else◌, true, false};
 ghost use Rattle.std.specs.List.Sorted.{IsStrictlyIncreasing};
 ghost use Rattle.std.specs.Option.{option_copied};
 ghost use Rattle.types_terms.specs.declared.kind.Kind.{Kind};
@@ -9,9 +9,9 @@ ghost use Rattle.simplex_messages.specs.declared.vote.Vote.{Vote};
 ghost use Rattle.simplex_messages.specs.VoteParts.{vote_signer};
 ghost use Rattle.batcher_rows.specs.Votes.{is_kind, is_in_way, is_candidate, vote_kind, vote_attestation, vote_proposal};
 ghost use Rattle.batcher_rows.specs.declared.rows.Row.{Row};
-ghost use Rattle.batcher_rows.specs.Rows.{head_of, is_aside, OthersStay, IsCounted, is_marked, mark_of, stands, vote_in, votes_in, counted_in, tally_at, with_cell, each_cell, kept, settled, members_of, newest_of, votes_of, KindIs, AreNewest, PlacesStay, RowsStay, pushed, settled_waiting, settled_verified};
+ghost use Rattle.batcher_rows.specs.Rows.{head_of, is_aside, OthersStay, IsCounted, is_marked, mark_of, stands, vote_in, votes_in, counted_in, tally_at, with_cell, each_cell, kept, settled, members_of, newest_of, votes_of, KindIs, AreNewest, NoneInWay, StrangersFree, blocks, blocks_at, PlacesStay, RowsStay, pushed, settled_waiting, settled_verified};
 
-use crate::vote_kinds::{attestation_of, is_for, kind_of};
+use crate::vote_kinds::{attestation_of, is_for, is_in_way, kind_of};
 use batcher_assembly::is_listed;
 use simplex_messages::Vote;
 use std::alloc::{AllocError, Global};
@@ -187,6 +187,21 @@ impl<S: Scheme<D>, D: Digest> Row<S, D> {
         counted(cell, kind, verified)
     }
 
+    /// Whether a vote of it counts, and stands in the way of this one.
+    fn blocks(&self, vote: &Vote<S, D>) -> bool
+        ensures { result ≡ blocks vote.now self.now }
+    {
+        let cell = if is_same_kind(Kind::Notarization, kind_of(vote)) {
+            self.notarize.as_ref()
+        } else {
+            self.other.as_ref()
+        };
+        match cell {
+            Some(held) => !held.mark.is_aside() && is_in_way(vote, &held.vote),
+            None => false,
+        }
+    }
+
     /// Its votes count on only if they are for this proposal.
     fn retain_for(&mut self, proposal: &Proposal<D>)
         ensures { self.new ≡ each_cell (kept (is_candidate D.PartialEq.eq (Some proposal.now))) self.old }
@@ -306,6 +321,42 @@ impl<S: Scheme<D>, D: Digest> Rows<S, D> {
             Some(held) => Some(&held.vote),
             None => None,
         }
+    }
+
+    /// Whether a vote that counts stands in the way of this one: of its signer, and of its kind or, of nullify and
+    /// finalize, of either.
+    pub fn has_in_way(&self, vote: &Vote<S, D>) -> bool
+        ensures { (members : ℕ) (votes : List (Vote S D S.PublicKey S.Signature S.Certificate))
+            → AreNewest self.now members votes
+            → (result ≡ false) ↔ NoneInWay self.now vote.now }
+    {
+        let signer = vote.signer().get();
+        if self.members <= signer {
+            return self.has_stranger_in_way(vote);
+        }
+        self.has_blocking(signer as usize, vote)
+    }
+
+    /// Whether the row of this place, if there is one, blocks the vote.
+    fn has_blocking(&self, place: usize, vote: &Vote<S, D>) -> bool
+        ensures { result ≡ blocks_at vote.now (slice_get self.now.rows.items place) }
+    {
+        match self.rows.get(place) {
+            Some(row) => row.blocks(vote),
+            None => false,
+        }
+    }
+
+    /// Whether a row that isn't a member's blocks the vote.
+    fn has_stranger_in_way(&self, vote: &Vote<S, D>) -> bool
+        ensures { (result ≡ false) ↔ StrangersFree vote.now self.now }
+    {
+        for place in self.members as usize..self.rows.len() {
+            if self.has_blocking(place, vote) {
+                return true;
+            }
+        }
+        false
     }
 
     /// Makes one row more.

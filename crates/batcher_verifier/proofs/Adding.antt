@@ -3,6 +3,7 @@ use Rattle.std.proofs.Common.{◌≡◌, ℕ, Bool, true, false, not, ◌&&◌, 
 use Rattle.std.specs.Prelude.{Result, Ok, Err, OnErr, None, if◌then◌else◌}
 use Rattle.types_core.specs.declared.scheme.Scheme.{Ghosts}
 use Rattle.simplex_messages.specs.declared.vote.Vote.{Vote}
+use Rattle.simplex_messages.specs.VoteParts.{vote_round}
 use Rattle.messages_certificates.specs.declared.certificate.Certificate.{Certificate}
 use Rattle.types_terms.specs.declared.kind.Kind.{Kind}
 use Rattle.types_core.specs.Subject.{Statement}
@@ -11,11 +12,11 @@ use Rattle.batcher_verifier.specs.declared.proposal_state.ProposalState.{Proposa
 use Rattle.batcher_verifier.specs.declared.verifier.Verifier.{Verifier}
 use Rattle.batcher_verifier.specs.Votes.{is_kind, vote_kind, fixed_proposal}
 use Rattle.batcher_verifier.specs.History.{History, accepted, waiting, verified, Event, Taken, Cast, Setup, select, proposal_of, selection, selected, leader_of, is_complete, is_candidate}
-use Rattle.batcher_rows.specs.Rows.{tally_at, KindIs, AreNewest, RowsStay, pushed}
+use Rattle.batcher_rows.specs.Rows.{tally_at, KindIs, AreNewest, NoneInWay, RowsStay, pushed}
 use Rattle.batcher_verifier.specs.Lawful.{MayHappen, MayBeAdded}
 use Rattle.batcher_verifier.specs.Keeping.{RowsKeep, selection_of, led_by, KeepsFor, IsVerifierKept, IsChosen, KindKeeps}
 use Rattle.batcher_verifier.proofs.Folding.{selection-taken, selection-cast}
-use Rattle.batcher_rows.specs.Staying.{stays-kind, places-newest}
+use Rattle.batcher_rows.specs.Staying.{none-in-way, none-sure, none-waits, stays-kind, places-newest}
 use Rattle.batcher_verifier.proofs.Choosing.{chosen-keeps, counts-mine, counts-good, keeps-taken, keeps-cast}
 
 module _ {S D P G C : Type 0} where
@@ -41,6 +42,24 @@ module _ {S D P G C : Type 0} (same : D → D → Bool) (attests : S → ℕ →
   pub may-add : (own : Bool) → MayHappen same attests s h (came own v) → MayBeAdded same s h v
   may-add true allowed = allowed.0
   may-add false allowed = allowed
+
+-- what isn't is false
+pub not-true : (b : Bool) → not b ≡ true → b ≡ false
+not-true false e = refl
+not-true true e = absurd (cc e)
+
+module _ {S D P G C : Type 0} (same : D → D → Bool) (s : Setup S) (h : History S D P G C) (rows : Rows S D P G C) (k : RowsKeep same s rows h) (v : Vote S D P G C) where
+  -- a vote of the round that no row stands in the way of may be added
+  pub none-added : vote_round v ≡ s.round → NoneInWay rows v → MayBeAdded same s h v
+  none-added ours none = record {
+    ours = ours;
+    none_waits = λ kind. none-waits v kind rows (is_complete kind h) (waiting same s kind h) (verified same s kind h) (k.kinds kind) none;
+    none_verified = λ kind. none-sure v kind rows (is_complete kind h) (waiting same s kind h) (verified same s kind h) (k.kinds kind) none;
+  }
+
+  -- and the other way round
+  pub added-none : MayBeAdded same s h v → NoneInWay rows v
+  added-none may = none-in-way v rows (λ kind. is_complete kind h) (λ kind. waiting same s kind h) (λ kind. verified same s kind h) k.kinds may.none_waits may.none_verified
 
 -- what holds, holds of a failure
 on-err : {X E : Type 0} (r : Result X E) (P : Type 0) → P → OnErr r P

@@ -7,6 +7,7 @@ mod certificate_kinds;
 mod laws;
 mod proposal_state;
 mod verifier;
+mod vote_round;
 
 pub use batch::Batch;
 pub use batcher_fault::BatcherFault;
@@ -21,3 +22,4 @@ pub use laws::{
 };
 pub use types_terms::Kind;
 pub use verifier::Verifier;
+pub use vote_round::round_of;

@@ -7,14 +7,15 @@ ghost use Rattle.types_quorum.specs.Committee.{quorum};
 ghost use Rattle.messages_certificates.specs.Certificate.{certificate_round};
 ghost use Rattle.batcher_verifier.specs.Votes.{is_of, vote_kind, fixed_proposal};
 ghost use Rattle.batcher_verifier.specs.History.{accepted, recorded, Taken, Cast, Certified, Led, History, Setup, select, proposal_of, selected, selection, leader_of, led, notarized_by, context, waiting, verified, is_candidate, is_complete, is_ready, is_due, next_kind};
-ghost use Rattle.batcher_verifier.specs.Lawful.{MayHappen};
-ghost use Rattle.simplex_messages.specs.VoteParts.{vote_signer};
+ghost use Rattle.batcher_verifier.specs.Lawful.{MayBeAdded, MayHappen, VoteAttests};
+ghost use Rattle.simplex_messages.specs.VoteParts.{vote_round, vote_signer};
 ghost use Rattle.batcher_rows.specs.Rows.{tally_at};
 ghost use Rattle.batcher_verifier.specs.Keeping.{VerifierKeeps, AtEachOf, selection_of, IsChosen, held_by, led_by};
 
 use crate::batcher_fault::BatcherFault;
 use crate::certificate_kinds::{fixed_by, kind_of_certificate, proposal_of_certificate};
 use crate::proposal_state::ProposalState;
+use crate::vote_round::round_of;
 use batcher_rows::{Rows, is_for, kind_of};
 use simplex_messages::{Certificate, Notarize, Vote};
 use std::alloc::{AllocError, Global};
@@ -181,10 +182,53 @@ impl<S: Scheme<D>, D: Digest> Verifier<S, D> {
         }
     }
 
-    /// Adds a vote: one that is known to attest, or one that waits to be judged. No vote of its signer may wait or be known
-    /// to attest that stands in its way: of its kind or, of nullify and finalize, of either. After an `Err` it counts as not
-    /// made.
-    pub fn add(&mut self, vote: Vote<S, D>, verified: bool) -> Result<(), AllocError>
+    /// Adds a vote, one that is known to attest or one that waits to be judged: whether it was added. It is exactly where
+    /// it is of the round, and no vote of its signer waits or is known to attest that stands in its way: of its kind or,
+    /// of nullify and finalize, of either. Else, and after an `Err`, nothing is changed.
+    pub fn add(&mut self, vote: Vote<S, D>, verified: bool) -> Result<bool, AllocError>
+        ensures added { IfOk result (λ added.
+            AtEachOf D.PartialEq.eq S.Scheme S.batchable self.old (λ s h. IsTrue added ↔ MayBeAdded D.PartialEq.eq s h vote)) }
+        ensures waits { IfOk result (λ added.
+            AtEachOf D.PartialEq.eq S.Scheme S.batchable self.old (λ s h.
+            added ≡ true
+            → verified ≡ false
+            → VerifierKeeps D.PartialEq.eq S.Scheme S.batchable s self.new (Taken vote ∷ h))) }
+        ensures verified { IfOk result (λ added.
+            AtEachOf D.PartialEq.eq S.Scheme S.batchable self.old (λ s h.
+            added ≡ true
+            → verified ≡ true
+            → VoteAttests S.attests s vote
+            → VerifierKeeps D.PartialEq.eq S.Scheme S.batchable s self.new (Cast vote ∷ h))) }
+        ensures refused { IfOk result (λ added. added ≡ false → self.new ≡ self.old) }
+        ensures err { OnErr result
+            (AtEachOf D.PartialEq.eq S.Scheme S.batchable self.old (λ s h. VerifierKeeps D.PartialEq.eq S.Scheme S.batchable s self.new h)) }
+    {
+        if !self.may_add(&vote) {
+            return Ok(false);
+        }
+        self.put(vote, verified)?;
+        Ok(true)
+    }
+
+    /// Whether a vote may be added.
+    fn may_add(&self, vote: &Vote<S, D>) -> bool
+        ensures { AtEachOf D.PartialEq.eq S.Scheme S.batchable self.now (λ s h. IsTrue result ↔ MayBeAdded D.PartialEq.eq s h vote.now) }
+    {
+        if !self.is_ours(vote) {
+            return false;
+        }
+        !self.rows.has_in_way(vote)
+    }
+
+    /// Whether the vote is of the round.
+    fn is_ours(&self, vote: &Vote<S, D>) -> bool
+        ensures { AtEachOf D.PartialEq.eq S.Scheme S.batchable self.now (λ s h. IsTrue result ↔ (vote_round vote.now ≡ s.round)) }
+    {
+        round_of(vote) == self.round()
+    }
+
+    /// Adds a vote that may be added.
+    fn put(&mut self, vote: Vote<S, D>, verified: bool) -> Result<(), AllocError>
         ensures waits { OnOk result (AtEachOf D.PartialEq.eq S.Scheme S.batchable self.old (λ s h.
             verified ≡ false
             → MayHappen D.PartialEq.eq S.attests s h (Taken vote)

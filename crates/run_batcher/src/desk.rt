@@ -49,13 +49,13 @@ impl Desk {
         }
     }
 
-    /// `add VERIFIED VOTE`: one that is known to attest, or one that waits to be judged.
+    /// `add VERIFIED VOTE`: whether it was added, one that is known to attest, or one that waits to be judged.
     fn add(&mut self, words: &mut Words<'_>, say: &mut Say) -> Result<(), Trouble> {
         let is_verified = words.truth()?;
         let vote = words.vote(say.alloc, self.n)?;
         words.end()?;
-        self.verifier.add(vote, is_verified)?;
-        say.ok()
+        let added = self.verifier.add(vote, is_verified)?;
+        say.truth(added)
     }
 
     /// `set_leader I -`, or `set_leader I VOTE` with the leader's notarize.

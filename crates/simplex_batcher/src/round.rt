@@ -17,12 +17,12 @@ ghost use Rattle.simplex_batcher.specs.Admission.{contradicts, IsBlocked, report
 ghost use Rattle.batcher_verifier.specs.ConstructionResult.{after, after_construction, kinds_left, HasFailed, IsBatch, IsReadable, IsVoted};
 ghost use Rattle.simplex_batcher.specs.Rounds.{RoundKeeps, AtEach};
 
-use crate::votes::{notarized_in, round_of, round_of_certificate};
+use crate::votes::{notarized_in, round_of_certificate};
 use batcher_admission::{Admission, are_against, copied, refusal, report};
 use batcher_assembly::in_turn;
 use batcher_verifier::{
     Batch, BatcherFault, Kind, Verifier, batches_rest_on_accepted_votes, constructions_end,
-    forwarding_changes_no_votes, kind_of, kind_of_certificate, no_quorum_is_lost,
+    forwarding_changes_no_votes, kind_of, kind_of_certificate, no_quorum_is_lost, round_of,
     what_is_due_has_no_certificate, what_is_new_may_be_added,
 };
 use simplex_messages::{Activity, Certificate, Vote};
@@ -182,7 +182,7 @@ impl<S: Scheme<D>, D: Digest> Round<S, D> {
             (AtEach D.PartialEq.eq S.Scheme S.batchable self.old (λ s h. RoundKeeps D.PartialEq.eq S.Scheme S.batchable s self.new h)) }
     {
         what_is_new_may_be_added::<S, D>();
-        self.verifier.add(copied(vote), own)?;
+        let _ = self.verifier.add(copied(vote), own)?;
         Ok(())
     }
 

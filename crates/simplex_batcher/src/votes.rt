@@ -1,7 +1,6 @@
 //! What a vote or a certificate of any kind is for.
 
 ghost use Rattle.std.specs.Prelude.{◌≡◌};
-ghost use Rattle.simplex_messages.specs.VoteParts.{vote_round};
 ghost use Rattle.messages_certificates.specs.Certificate.{certificate_round};
 ghost use Rattle.batcher_verifier.specs.Votes.{notarized_proposal};
 ghost use Rattle.std.specs.Option.{option_and_then, option_copied};
@@ -9,17 +8,6 @@ ghost use Rattle.simplex_batcher.specs.Queries.{is_nullify, is_backing};
 
 use simplex_messages::{Certificate, Vote};
 use types_core::{Digest, Proposal, Round, Scheme};
-
-/// The round that a vote is of.
-pub(crate) fn round_of<S: Scheme<D>, D: Digest>(vote: &Vote<S, D>) -> Round
-    ensures { result ≡ vote_round vote.now }
-{
-    match vote {
-        Vote::Notarize(vote) => vote.proposal.round,
-        Vote::Nullify(vote) => vote.round,
-        Vote::Finalize(vote) => vote.proposal.round,
-    }
-}
 
 /// The proposal of a notarize, if there is one.
 pub(crate) fn notarized_in<S: Scheme<D>, D: Digest>(
