@@ -95,6 +95,194 @@ static void test_node(void) {
     WANT(voumlis_node_close(&node), VOUMLIS_ARGUMENT);
 }
 
+/* Each fault of settings is told by its number, and those of another form aren't read. */
+static void test_settings(void) {
+    struct voumlis_settings settings = voumlis_settings_of(4, 0);
+    struct voumlis_found found;
+    static uint8_t long_bytes[256];
+
+    WANT(voumlis_settings_check(&settings, &found), VOUMLIS_DONE);
+    want(__LINE__, found.named, 0);
+#define WANT_FAULT(change, fault) \
+    do { \
+        settings = voumlis_settings_of(4, 0); \
+        change; \
+        WANT(voumlis_settings_check(&settings, &found), VOUMLIS_SETTINGS); \
+        want(__LINE__, (uint32_t)found.place, fault); \
+        want(__LINE__, found.named, 1); \
+    } while (0)
+    WANT_FAULT(settings.members = 0, VOUMLIS_NO_PARTICIPANTS);
+    WANT_FAULT(settings.leader_timeout = 0, VOUMLIS_LEADER_TIMEOUT_ZERO);
+    WANT_FAULT(settings.certification_timeout = 1000, VOUMLIS_CERTIFICATION_NOT_ABOVE_LEADER);
+    WANT_FAULT(settings.skip_timeout = 2000, VOUMLIS_SKIP_NOT_ABOVE_CERTIFICATION);
+    WANT_FAULT(settings.skip_timeout = 5000, VOUMLIS_SKIP_NOT_ABOVE_RETRY);
+    WANT_FAULT(settings.retry_timeout = 0, VOUMLIS_RETRY_ZERO);
+    WANT_FAULT(settings.retention = 0, VOUMLIS_RETENTION_ZERO);
+    WANT_FAULT(settings.members = 65536, VOUMLIS_TOO_MANY_PARTICIPANTS);
+    WANT_FAULT(settings.term_length = 0, VOUMLIS_TERM_LENGTH_ZERO);
+    WANT_FAULT(settings.stall_timeout = 0, VOUMLIS_STALL_TIMEOUT_ZERO);
+    WANT_FAULT((settings.base = long_bytes, settings.base_length = 256), VOUMLIS_BASE_TOO_LONG);
+    WANT_FAULT((settings.seed = long_bytes, settings.seed_length = 256, settings.shuffled = 1), VOUMLIS_SEED_TOO_LONG);
+    WANT_FAULT(settings.member = 4, VOUMLIS_NO_SUCH_MEMBER);
+    WANT_FAULT(settings.optimistic_views = 1001, VOUMLIS_TOO_MANY_OPTIMISTIC);
+    /* Of two the one with the less number. */
+    WANT_FAULT((settings.member = 4, settings.term_length = 0), VOUMLIS_TERM_LENGTH_ZERO);
+#undef WANT_FAULT
+    /* A seed that shuffles nothing isn't looked at; terms of one view may never be given up as a whole. */
+    settings = voumlis_settings_of(4, 3);
+    settings.seed = long_bytes;
+    settings.seed_length = 256;
+    settings.term_length = 1;
+    settings.stall_timeout = settings.optimistic_views = 0;
+    settings.base_length = 0;
+    WANT(voumlis_settings_check(&settings, &found), VOUMLIS_DONE);
+#define WANT_NONE(change, status) \
+    do { \
+        settings = voumlis_settings_of(4, 0); \
+        change; \
+        WANT(voumlis_settings_check(&settings, &found), status); \
+    } while (0)
+    WANT_NONE(settings.version = 2, VOUMLIS_VERSION);
+    WANT_NONE(settings.version = 0, VOUMLIS_VERSION);
+    WANT_NONE(settings.size = sizeof settings - 1, VOUMLIS_VERSION);
+    WANT_NONE(settings.size = sizeof settings + 8, VOUMLIS_VERSION);
+    WANT_NONE(settings.skips = 3, VOUMLIS_ARGUMENT);
+    WANT_NONE(settings.forwarding = 3, VOUMLIS_ARGUMENT);
+    WANT_NONE(settings.historical_votes = 2, VOUMLIS_ARGUMENT);
+    WANT_NONE(settings.shuffled = 2, VOUMLIS_ARGUMENT);
+    WANT_NONE(settings.base = NULL, VOUMLIS_ARGUMENT);
+    WANT_NONE((settings.seed = NULL, settings.seed_length = 1), VOUMLIS_ARGUMENT);
+    /* The proved function tests size and version too. */
+    settings = voumlis_settings_of(4, 0);
+    settings.size++;
+    WANT(voumlis_proved_settings_check(&settings, settings.base, 7, settings.base, 0, &found), VOUMLIS_VERSION);
+    settings.size--;
+    settings.version++;
+    WANT(voumlis_proved_settings_check(&settings, settings.base, 7, settings.base, 0, &found), VOUMLIS_VERSION);
+#undef WANT_NONE
+    WANT(voumlis_settings_check(NULL, &found), VOUMLIS_ARGUMENT);
+    WANT(voumlis_settings_check(&settings, NULL), VOUMLIS_ARGUMENT);
+}
+
+/* A node that is set up otherwise answers otherwise. */
+static void test_set_node(void) {
+    struct voumlis_settings settings = voumlis_settings_of(4, 0);
+    struct voumlis_node node = VOUMLIS_NO_NODE;
+    struct voumlis_found found;
+    struct voumlis_views views = {7, 7};
+    uint8_t room[256];
+    /* Not refused, one action: wake at moment 900. */
+    static const uint8_t woken[] = {0, 1, 8, 132, 7};
+    /* Not refused, two actions: build 0, no handoff, epoch 3, view 1, leader 0, parent 0; its payload and a wake follow. */
+    static const uint8_t built[] = {0, 2, 2, 0, 0, 3, 1, 0, 0, 0, 0, 0};
+    static const uint8_t torn[] = {0, 0, 0, 0, 1, 7, 1};
+
+    settings.leader_timeout = 900;
+    WANT(voumlis_node_open_with(&settings, 0, NULL, 0, &node, &found), VOUMLIS_DONE);
+    WANT(voumlis_node_open_with(&settings, 0, NULL, 0, &node, &found), VOUMLIS_ARGUMENT);
+    WANT(voumlis_node_replies(&node, room, sizeof room, &found), VOUMLIS_DONE);
+    want(__LINE__, (uint32_t)found.length, sizeof woken);
+    want(__LINE__, memcmp(room, woken, sizeof woken) != 0, 0);
+    WANT(voumlis_node_views(&node, &views), VOUMLIS_DONE);
+    want(__LINE__, (uint32_t)views.current, 1);
+    want(__LINE__, (uint32_t)views.finalized, 0);
+    WANT(voumlis_node_views(&node, (struct voumlis_views *)&node), VOUMLIS_ARGUMENT);
+    WANT(voumlis_node_close(&node), VOUMLIS_DONE);
+    WANT(voumlis_node_views(&node, &views), VOUMLIS_ARGUMENT);
+
+    settings.epoch = 3;
+    memset(settings.genesis, 0xab, sizeof settings.genesis);
+    WANT(voumlis_node_open_with(&settings, 0, NULL, 0, &node, &found), VOUMLIS_DONE);
+    WANT(voumlis_node_replies(&node, room, sizeof room, &found), VOUMLIS_DONE);
+    want(__LINE__, (uint32_t)found.length, sizeof built + sizeof settings.genesis + 3);
+    want(__LINE__, memcmp(room, built, sizeof built) != 0, 0);
+    want(__LINE__, memcmp(room + sizeof built, settings.genesis, sizeof settings.genesis) != 0, 0);
+    WANT(voumlis_node_close(&node), VOUMLIS_DONE);
+
+    WANT(voumlis_node_open_with(&settings, 0, torn, sizeof torn, &node, &found), VOUMLIS_TORN);
+    WANT(voumlis_node_open_with(&settings, 1, torn, sizeof torn, &node, &found), VOUMLIS_DONE);
+    WANT(voumlis_node_close(&node), VOUMLIS_DONE);
+    WANT(voumlis_node_open_with(&settings, 0, record, sizeof record, &node, &found), VOUMLIS_REFUSED);
+    WANT(voumlis_node_open_with(&settings, 0, (const uint8_t *)"#", 1, &node, &found), VOUMLIS_NO_RECORD);
+
+    settings.retention = 0;
+    WANT(voumlis_node_open_with(&settings, 0, NULL, 0, &node, &found), VOUMLIS_SETTINGS);
+    want(__LINE__, (uint32_t)found.place, VOUMLIS_RETENTION_ZERO);
+    want(__LINE__, node.live, 0);
+    settings.retention = 10;
+    settings.version = 2;
+    WANT(voumlis_node_open_with(&settings, 0, NULL, 0, &node, &found), VOUMLIS_VERSION);
+    want(__LINE__, node.live, 0);
+    WANT(voumlis_node_close(&node), VOUMLIS_ARGUMENT);
+}
+
+/* The notarization of view 2 of epoch 0 by members 0, 1 and 2 of four, of docs/FORMATS.md. */
+static const uint8_t front[] = {0, 0, 2, 1};
+static const uint8_t signers[3][33] = {
+    {0, 0xb6, 0x19, 0x4c, 0x39, 0xaa, 0x29, 0xf8, 0x59, 0xc0, 0x78, 0xd1, 0x64, 0x6c, 0x45, 0xf4, 0x81,
+     0x6d, 0xea, 0xee, 0x70, 0x4f, 0xda, 0x83, 0x58, 0x28, 0xa1, 0xe8, 0xd4, 0xe1, 0x94, 0x7d, 0x7c},
+    {1, 0xab, 0xe9, 0x15, 0x8c, 0x3b, 0xdc, 0x71, 0xf0, 0x93, 0x9c, 0x80, 0xb8, 0x1d, 0x8e, 0x0e, 0x60,
+     0x2c, 0x44, 0x6b, 0xdd, 0x5c, 0x95, 0xe5, 0xd4, 0x4f, 0x33, 0x10, 0xce, 0xc6, 0xa9, 0x14, 0xa2},
+    {2, 0xd2, 0xd7, 0x1f, 0xa, 0x33, 0x89, 0xfb, 0xad, 0x2c, 0x17, 0x94, 0x30, 0x9a, 0xcc, 0xb, 0x13,
+     0xbe, 0x19, 0x76, 0x11, 0x82, 0x65, 0xc9, 0xaa, 0x3b, 0xe0, 0x32, 0xb4, 0xe7, 0xe5, 0xc5, 0xc3},
+};
+
+static size_t notarization(uint8_t *at) {
+    memcpy(at, front, sizeof front);
+    memset(at + 4, 0xaa, 32);
+    at[36] = 3;
+    memcpy(at + 37, signers, sizeof signers);
+    return 37 + sizeof signers;
+}
+
+/* Light clients, and hosts with keys. */
+static void test_light(void) {
+    struct voumlis_settings settings = voumlis_settings_of(4, 0);
+    struct voumlis_certified certified = {7, 7, 7, 7, {7}}, room[2];
+    struct voumlis_attestation attestations[3];
+    struct voumlis_found found;
+    uint8_t bytes[256];
+    size_t length = notarization(bytes), i;
+
+    WANT(voumlis_certifies(&settings, bytes, length - 1, &certified, &found), VOUMLIS_END);
+    WANT(voumlis_certifies(&settings, bytes, length + 1, &certified, &found), VOUMLIS_INVALID);
+    want(__LINE__, certified.kind, 7);
+    WANT(voumlis_certifies(&settings, bytes, length, &certified, &found), VOUMLIS_DONE);
+    want(__LINE__, certified.kind, VOUMLIS_NOTARIZATION);
+    want(__LINE__, (uint32_t)certified.epoch, 0);
+    want(__LINE__, (uint32_t)certified.view, 2);
+    want(__LINE__, (uint32_t)certified.parent, 1);
+    want(__LINE__, memcmp(certified.payload, bytes + 4, 32) != 0, 0);
+    WANT(voumlis_finalized_in(&settings, bytes, length, room, 2, &found), VOUMLIS_NOT_FINAL);
+    want(__LINE__, found.named, 1);
+    want(__LINE__, (uint32_t)found.place, 0);
+    WANT(voumlis_finalized_in(&settings, NULL, 0, NULL, 0, &found), VOUMLIS_DONE);
+    want(__LINE__, (uint32_t)found.length, 0);
+    settings.epoch = 1;
+    WANT(voumlis_certifies(&settings, bytes, length, &certified, &found), VOUMLIS_OTHER_EPOCH);
+    settings.epoch = 0;
+    settings.base_length = 6;
+    WANT(voumlis_certifies(&settings, bytes, length, &certified, &found), VOUMLIS_NOT_CERTIFYING);
+    settings.member = 4;
+    WANT(voumlis_certifies(&settings, bytes, length, &certified, &found), VOUMLIS_SETTINGS);
+    settings.version = 3;
+    WANT(voumlis_certifies(&settings, bytes, length, &certified, &found), VOUMLIS_VERSION);
+    WANT(voumlis_certifies(&settings, bytes, length, NULL, &found), VOUMLIS_ARGUMENT);
+    WANT(voumlis_certifies(&settings, bytes, length, (struct voumlis_certified *)bytes, &found), VOUMLIS_ARGUMENT);
+
+    WANT(voumlis_attestations(VOUMLIS_CERTIFICATE, 4, bytes, length, attestations, 2, &found), VOUMLIS_ROOM);
+    want(__LINE__, (uint32_t)found.length, 3);
+    WANT(voumlis_attestations(VOUMLIS_CERTIFICATE, 4, bytes, length, attestations, 3, &found), VOUMLIS_DONE);
+    for (i = 0; i < 3; i++) {
+        want(__LINE__, attestations[i].signer, (uint32_t)i);
+        want(__LINE__, (uint32_t)attestations[i].place, (uint32_t)(38 + 33 * i));
+        want(__LINE__, memcmp(attestations[i].hash, signers[i] + 1, 32) != 0, 0);
+    }
+    WANT(voumlis_attestations(VOUMLIS_CERTIFICATE, 2, bytes, length, attestations, 3, &found), VOUMLIS_TOO_LONG);
+    WANT(voumlis_attestations(VOUMLIS_ARTIFACT, 4, verdict, 4, NULL, 0, &found), VOUMLIS_DONE);
+    WANT(voumlis_attestations(4, 4, verdict, 4, NULL, 0, &found), VOUMLIS_ARGUMENT);
+}
+
 int main(void) {
     struct voumlis_found found;
     union {
@@ -140,5 +328,8 @@ int main(void) {
     WANT(voumlis_audit(4, both.bytes, 8, both.bytes + 7, 8, &found), VOUMLIS_ARGUMENT);
     WANT(voumlis_audit(4, verdict, 4, both.bytes + 4, 8, &both.found), VOUMLIS_ARGUMENT);
     test_node();
+    test_settings();
+    test_set_node();
+    test_light();
     return failed;
 }

@@ -1,19 +1,19 @@
-/* Voumlis for C: the audit of reports, the check of a record, the reading of a message, and a member's node.
+/* Voumlis for C: the audit of reports, the check of a record, the reading of messages and certificates, and a member's node.
  *
  * Link libsimplex_c.a (`cd crates/simplex_c && rt lib` makes it), and three functions over one heap, which the toolchain's archive
  * has, or a program of yours: docs/EMBEDDING.md.
  *
  * WHAT IS TESTED. Each function below is C, and tests what can be tested before it calls the proved one of that name: that
- * no pointer is null where a length isn't 0, that no length is beyond half of the address space, that `found` and `node` are
+ * no pointer is null where a length isn't 0, that no length is beyond half of the address space, that structs are
  * aligned, that what is written to doesn't overlap what is read or written beside it, and that a node is open where it has to
  * be, and none where it mustn't. Where that fails it answers VOUMLIS_ARGUMENT, and nothing was read or written. Any numbers
  * and any bytes are answered.
  *
- * WHAT A CALLER OWES, for no program in C can test it: each pointer is to as many bytes as the length behind it says; what
- * is written to (`evidence`, `room`, `node`, `found`) is the caller's, and nothing else reads or writes it during the call;
- * what is read isn't written meanwhile. No function is called from a signal handler, or from a forked child of a process with
- * threads. Of a node: a `voumlis_node` is `VOUMLIS_NO_NODE`, or as a call has left it, and no copy of it is used besides; it
- * stays on the thread that opened it.
+ * WHAT A CALLER OWES, for no program in C can test it: each pointer is to as many bytes as the length behind it says;
+ * what is written to (`evidence`, `room`, `certified`, `views`, `node`, `found`) is the caller's, and nothing else
+ * reads or writes it during the call; what is read isn't written meanwhile. No function is called from a signal
+ * handler, or from a forked child of a process with threads. Of a node: a `voumlis_node` is `VOUMLIS_NO_NODE`, or as a
+ * call has left it, and no copy of it is used besides; it stays on the thread that opened it.
  *
  * WHAT IS KEPT. A node, from its opening to its closing, in the memory of the heap: else nothing. No function holds a pointer
  * that it was passed after it returns, and none has state beside a node: any number of threads may call at once, each with
@@ -27,6 +27,7 @@
 
 #include <stddef.h>
 #include <stdint.h>
+#include <string.h>
 
 #ifdef __cplusplus
 extern "C" {
@@ -46,7 +47,12 @@ enum voumlis_status {
     VOUMLIS_DEVICE = 9,   /* the host could not be asked to change a record: the node can go on no more */
     VOUMLIS_FAILED = 10,  /* a call failed before: the node can go on no more */
     VOUMLIS_TORN = 11,    /* behind a record's entries stands what no crash leaves */
-    VOUMLIS_NO_RECORD = 12 /* the bytes begin as no record does */
+    VOUMLIS_NO_RECORD = 12, /* the bytes begin as no record does */
+    VOUMLIS_SETTINGS = 13, /* the settings have a fault: `found->place` is its number */
+    VOUMLIS_VERSION = 14,  /* the settings are of another size or version than the library reads */
+    VOUMLIS_OTHER_EPOCH = 15,    /* a certificate of another epoch */
+    VOUMLIS_NOT_CERTIFYING = 16, /* a certificate that isn't signed as one of these members */
+    VOUMLIS_NOT_FINAL = 17       /* a certificate that is no finalization, or not of a later view */
 };
 
 /* Kinds of messages. */
@@ -78,6 +84,98 @@ enum voumlis_request {
     VOUMLIS_SYNC = 2   /* fix what stands there, so that a crash leaves it */
 };
 
+/* What can be wrong with settings: of several the one with the least number is told. */
+enum voumlis_settings_fault {
+    VOUMLIS_NO_PARTICIPANTS = 1,
+    VOUMLIS_LEADER_TIMEOUT_ZERO = 2,
+    VOUMLIS_CERTIFICATION_NOT_ABOVE_LEADER = 3,
+    VOUMLIS_SKIP_NOT_ABOVE_CERTIFICATION = 4,
+    VOUMLIS_SKIP_NOT_ABOVE_RETRY = 5,
+    VOUMLIS_RETRY_ZERO = 6,
+    VOUMLIS_RETENTION_ZERO = 7,
+    VOUMLIS_TOO_MANY_PARTICIPANTS = 8, /* more than 65,535 */
+    VOUMLIS_TERM_LENGTH_ZERO = 9,
+    VOUMLIS_STALL_TIMEOUT_ZERO = 10, /* with terms of more than one view, or optimistic views */
+    VOUMLIS_BASE_TOO_LONG = 11,      /* more than 255 bytes */
+    VOUMLIS_SEED_TOO_LONG = 12,      /* more than 255 bytes */
+    VOUMLIS_NO_SUCH_MEMBER = 13,
+    VOUMLIS_TOO_MANY_OPTIMISTIC = 14 /* more than 1,000 */
+};
+
+/* Whether views may be given up before their deadlines. */
+enum voumlis_skips {
+    VOUMLIS_SKIPS_DISABLED = 0,
+    VOUMLIS_SKIPS_AS_MEMBERS = 1, /* in as many terms as there are members */
+    VOUMLIS_SKIPS_FIXED = 2       /* in `skip_budget` terms */
+};
+
+/* To whom the payload of the view before is forwarded when a view is entered. */
+enum voumlis_forwarding {
+    VOUMLIS_FORWARDING_DISABLED = 0,
+    VOUMLIS_FORWARDING_SILENT_VOTERS = 1,
+    VOUMLIS_FORWARDING_SILENT_LEADER = 2
+};
+
+/* How a member is set up: `voumlis_settings_of` makes one, of which what is to be otherwise is changed. Times are in
+ * milliseconds. ALIKE at all members of a committee, and through all lives of a record: members, term_length, shuffled, epoch,
+ * stall_timeout, optimistic_views, genesis, base and seed; and member through all lives of its record. The rest may differ.
+ * A later form is longer, has a higher version, and begins as this one. */
+struct voumlis_settings {
+    size_t size;               /* of this struct */
+    uint32_t version;          /* VOUMLIS_SETTINGS_VERSION */
+    uint32_t members;          /* 1 to 65,535 */
+    uint32_t member;           /* below `members` */
+    uint32_t term_length;      /* views of a term */
+    uint32_t shuffled;         /* 1 where `seed` shuffles who leads, 0 where members lead by ascending index */
+    uint32_t skips;            /* enum voumlis_skips */
+    uint32_t forwarding;       /* enum voumlis_forwarding */
+    uint32_t historical_votes; /* 1 where votes behind a certificate and of skipped views are kept, else 0 */
+    uint64_t epoch;
+    uint64_t stall_timeout;    /* 0 with terms of one view and no optimistic views alone */
+    uint64_t optimistic_views; /* at most 1,000 */
+    uint64_t leader_timeout;
+    uint64_t certification_timeout; /* above leader_timeout */
+    uint64_t retry_timeout;
+    uint64_t retention;    /* views kept before the last final one */
+    uint64_t skip_timeout; /* above certification_timeout and retry_timeout */
+    uint64_t skip_budget;
+    uint8_t genesis[32]; /* the payload that view 0 stands for */
+    const uint8_t *base; /* what is signed begins with it: at most 255 bytes */
+    size_t base_length;
+    const uint8_t *seed; /* at most 255 bytes */
+    size_t seed_length;
+};
+#define VOUMLIS_SETTINGS_VERSION 1
+/* The library reads this form: else this isn't compiled. */
+typedef char voumlis_settings_form[sizeof(struct voumlis_settings) == 176 ? 1 : -1];
+
+/* The views of a node. */
+struct voumlis_views {
+    uint64_t current;   /* the view that it is in */
+    uint64_t finalized; /* the last view that is final, or 0 */
+};
+
+/* What a certificate certifies. */
+enum voumlis_certificate {
+    VOUMLIS_NOTARIZATION = 0,  /* that a proposal may be built on */
+    VOUMLIS_NULLIFICATION = 1, /* that a round is given up: then parent and payload are zeros */
+    VOUMLIS_FINALIZATION = 2   /* that a proposal is final */
+};
+struct voumlis_certified {
+    uint32_t kind; /* enum voumlis_certificate */
+    uint64_t epoch;
+    uint64_t view;
+    uint64_t parent; /* the parent's view */
+    uint8_t payload[32];
+};
+
+/* An attestation of a message. */
+struct voumlis_attestation {
+    uint64_t place;   /* of the signature's first byte in the message */
+    uint32_t signer;  /* the index of the member in whose name it stands */
+    uint8_t hash[32]; /* the plain scheme's signature: what that member's key signs, where members have keys */
+};
+
 /* The proved functions, which test no pointer. */
 uint32_t voumlis_proved_audit(uint16_t members, const uint8_t *reports, size_t reports_length, uint8_t *evidence,
                          size_t evidence_length, struct voumlis_found *found);
@@ -86,6 +184,20 @@ uint32_t voumlis_proved_first_refused(uint16_t members, uint64_t epoch, uint32_t
 uint32_t voumlis_proved_decode(uint32_t kind, uint32_t members, const uint8_t *bytes, size_t length, struct voumlis_found *found);
 uint32_t voumlis_proved_node_open(uint16_t members, uint16_t member, uint32_t cuts, const uint8_t *record,
                                   size_t record_length, struct voumlis_node *node, struct voumlis_found *found);
+uint32_t voumlis_proved_node_open_with(const struct voumlis_settings *settings, const uint8_t *base, size_t base_length,
+                                       const uint8_t *seed, size_t seed_length, uint32_t cuts, const uint8_t *record,
+                                       size_t record_length, struct voumlis_node *node, struct voumlis_found *found);
+uint32_t voumlis_proved_settings_check(const struct voumlis_settings *settings, const uint8_t *base, size_t base_length,
+                                       const uint8_t *seed, size_t seed_length, struct voumlis_found *found);
+uint32_t voumlis_proved_node_views(struct voumlis_node *node, struct voumlis_views *views);
+uint32_t voumlis_proved_certifies(const struct voumlis_settings *settings, const uint8_t *base, size_t base_length,
+                                  const uint8_t *seed, size_t seed_length, const uint8_t *bytes, size_t length,
+                                  struct voumlis_certified *certified, struct voumlis_found *found);
+uint32_t voumlis_proved_finalized_in(const struct voumlis_settings *settings, const uint8_t *base, size_t base_length,
+                                     const uint8_t *seed, size_t seed_length, const uint8_t *bytes, size_t length,
+                                     struct voumlis_certified *room, size_t room_length, struct voumlis_found *found);
+uint32_t voumlis_proved_attestations(uint32_t kind, uint32_t members, const uint8_t *bytes, size_t length,
+                                     struct voumlis_attestation *room, size_t room_length, struct voumlis_found *found);
 uint32_t voumlis_proved_node_step(struct voumlis_node *node, const uint8_t *events, size_t length, struct voumlis_found *found);
 uint32_t voumlis_proved_node_requests(struct voumlis_node *node, uint8_t *room, size_t length, struct voumlis_found *found);
 uint32_t voumlis_proved_node_replies(struct voumlis_node *node, uint8_t *room, size_t length, struct voumlis_found *found);
@@ -172,6 +284,146 @@ static inline uint32_t voumlis_node_open(uint16_t members, uint16_t member, cons
     return voumlis_node_open_cutting(members, member, 0, record, record_length, node, found);
 }
 
+/* The settings of the program `simplex node`, as `member` of `members` is set up by it. */
+static inline struct voumlis_settings voumlis_settings_of(uint32_t members, uint32_t member) {
+    struct voumlis_settings settings;
+    memset(&settings, 0, sizeof settings);
+    settings.size = sizeof settings;
+    settings.version = VOUMLIS_SETTINGS_VERSION;
+    settings.members = members;
+    settings.member = member;
+    settings.term_length = 4;
+    settings.skips = VOUMLIS_SKIPS_AS_MEMBERS;
+    settings.historical_votes = 1;
+    settings.stall_timeout = 10000;
+    settings.optimistic_views = 2;
+    settings.leader_timeout = 1000;
+    settings.certification_timeout = 2000;
+    settings.retry_timeout = 5000;
+    settings.retention = 10;
+    settings.skip_timeout = 8000;
+    settings.base = (const uint8_t *)"simplex";
+    settings.base_length = 7;
+    return settings;
+}
+
+/* DONE where settings of this header lie there, and the bytes that they point to; a length of 0 may come with any pointer. Of
+ * settings of another size or version no more than these two is read. */
+static inline uint32_t voumlis_sets(const struct voumlis_settings *settings, const uint8_t **base, const uint8_t **seed,
+                                    const struct voumlis_found *found) {
+    const uint8_t *nothing = NULL;
+    if (!voumlis_fits(&nothing, 0, found) || !voumlis_lies(settings, offsetof(struct voumlis_settings, members)) ||
+        (uintptr_t)settings % sizeof(uint64_t) != 0)
+        return VOUMLIS_ARGUMENT;
+    if (settings->size != sizeof *settings || settings->version != VOUMLIS_SETTINGS_VERSION)
+        return VOUMLIS_VERSION;
+    if (!voumlis_lies(settings, sizeof *settings) || !voumlis_apart(settings, sizeof *settings, found, sizeof *found))
+        return VOUMLIS_ARGUMENT;
+    *base = settings->base;
+    *seed = settings->seed;
+    if (!voumlis_fits(base, settings->base_length, found) || !voumlis_fits(seed, settings->seed_length, found))
+        return VOUMLIS_ARGUMENT;
+    return VOUMLIS_DONE;
+}
+
+/* Whether a node can be opened with these settings. DONE. SETTINGS: the place is the number of the first fault. VERSION: they
+ * are of another size or version. ARGUMENT: `skips`, `forwarding`, `shuffled` or `historical_votes` is none of its values.
+ * MEMORY. */
+static inline uint32_t voumlis_settings_check(const struct voumlis_settings *settings, struct voumlis_found *found) {
+    const uint8_t *base, *seed;
+    uint32_t status = voumlis_sets(settings, &base, &seed, found);
+    if (status != VOUMLIS_DONE)
+        return status;
+    return voumlis_proved_settings_check(settings, base, settings->base_length, seed, settings->seed_length, found);
+}
+
+/* Whether so many values, each of this size, may lie there to be written, beside what is told. */
+static inline int voumlis_has_room(const void *room, size_t count, size_t size, const struct voumlis_found *found) {
+    return count <= SIZE_MAX / 2 / size && voumlis_lies(room, count * size) && (uintptr_t)room % sizeof(uint64_t) == 0 &&
+           voumlis_apart(room, count * size, found, sizeof *found);
+}
+
+/* What a certificate certifies for the members of these settings, of which these are just the bytes; the settings are any
+ * member's. DONE: `certified` has it. END, INVALID, TOO_LONG: they aren't just one certificate: the first trouble from the
+ * left. OTHER_EPOCH. NOT_CERTIFYING. SETTINGS, VERSION, ARGUMENT, MEMORY as of `voumlis_settings_check`. But where it answers
+ * DONE, `certified` is as it was. */
+static inline uint32_t voumlis_certifies(const struct voumlis_settings *settings, const uint8_t *bytes, size_t length,
+                                         struct voumlis_certified *certified, struct voumlis_found *found) {
+    const uint8_t *base, *seed;
+    uint32_t status;
+    if (!voumlis_fits(&bytes, length, found) || !voumlis_has_room(certified, 1, sizeof *certified, found) ||
+        !voumlis_apart(certified, sizeof *certified, bytes, length))
+        return VOUMLIS_ARGUMENT;
+    status = voumlis_sets(settings, &base, &seed, found);
+    if (status != VOUMLIS_DONE)
+        return status;
+    if (!voumlis_apart(certified, sizeof *certified, settings, sizeof *settings) ||
+        !voumlis_apart(certified, sizeof *certified, base, settings->base_length) ||
+        !voumlis_apart(certified, sizeof *certified, seed, settings->seed_length))
+        return VOUMLIS_ARGUMENT;
+    return voumlis_proved_certifies(settings, base, settings->base_length, seed, settings->seed_length, bytes, length,
+                                    certified, found);
+}
+
+/* The proposals that certificates, one behind another, make final for the members of these settings, each of a later view than
+ * the one before; what is missing between them isn't looked at. DONE: `room` begins with `found->length` of them. ROOM: so
+ * many are needed. Else the place is that of the first certificate that is none such: END, INVALID, TOO_LONG, OTHER_EPOCH,
+ * NOT_CERTIFYING, NOT_FINAL. SETTINGS, VERSION, ARGUMENT, MEMORY as of `voumlis_settings_check`. */
+static inline uint32_t voumlis_finalized_in(const struct voumlis_settings *settings, const uint8_t *bytes, size_t length,
+                                            struct voumlis_certified *room, size_t room_length, struct voumlis_found *found) {
+    const uint8_t *base, *seed;
+    struct voumlis_certified none;
+    uint32_t status;
+    if (room_length == 0)
+        room = &none;
+    if (!voumlis_fits(&bytes, length, found) || !voumlis_has_room(room, room_length, sizeof *room, found) ||
+        !voumlis_apart(room, room_length * sizeof *room, bytes, length))
+        return VOUMLIS_ARGUMENT;
+    status = voumlis_sets(settings, &base, &seed, found);
+    if (status != VOUMLIS_DONE)
+        return status;
+    if (!voumlis_apart(room, room_length * sizeof *room, settings, sizeof *settings) ||
+        !voumlis_apart(room, room_length * sizeof *room, base, settings->base_length) ||
+        !voumlis_apart(room, room_length * sizeof *room, seed, settings->seed_length))
+        return VOUMLIS_ARGUMENT;
+    return voumlis_proved_finalized_in(settings, base, settings->base_length, seed, settings->seed_length, bytes, length, room,
+                                       room_length, found);
+}
+
+/* The attestations of the message at the front of these bytes, in their order. DONE: `room` begins with `found->length` of
+ * them. ROOM: so many are needed. END, INVALID, TOO_LONG, ARGUMENT as of `voumlis_decode`. MEMORY. */
+static inline uint32_t voumlis_attestations(uint32_t kind, uint32_t members, const uint8_t *bytes, size_t length,
+                                            struct voumlis_attestation *room, size_t room_length,
+                                            struct voumlis_found *found) {
+    struct voumlis_attestation none;
+    if (room_length == 0)
+        room = &none;
+    if (!voumlis_fits(&bytes, length, found) || !voumlis_has_room(room, room_length, sizeof *room, found) ||
+        !voumlis_apart(room, room_length * sizeof *room, bytes, length))
+        return VOUMLIS_ARGUMENT;
+    return voumlis_proved_attestations(kind, members, bytes, length, room, room_length, found);
+}
+
+/* Opens a node as `voumlis_node_open_cutting` does, but with these settings, which are read during the call alone. Answers as
+ * that, and as `voumlis_settings_check`. */
+static inline uint32_t voumlis_node_open_with(const struct voumlis_settings *settings, uint32_t cuts, const uint8_t *record,
+                                              size_t record_length, struct voumlis_node *node, struct voumlis_found *found) {
+    const uint8_t *base, *seed;
+    uint32_t status;
+    if (!voumlis_fits(&record, record_length, found) || !voumlis_holds(node, 0) ||
+        !voumlis_apart(node, sizeof *node, record, record_length) || !voumlis_apart(node, sizeof *node, found, sizeof *found))
+        return VOUMLIS_ARGUMENT;
+    status = voumlis_sets(settings, &base, &seed, found);
+    if (status != VOUMLIS_DONE)
+        return status;
+    if (!voumlis_apart(node, sizeof *node, settings, sizeof *settings) ||
+        !voumlis_apart(node, sizeof *node, base, settings->base_length) ||
+        !voumlis_apart(node, sizeof *node, seed, settings->seed_length))
+        return VOUMLIS_ARGUMENT;
+    return voumlis_proved_node_open_with(settings, base, settings->base_length, seed, settings->seed_length, cuts, record,
+                                         record_length, node, found);
+}
+
 /* Has a node answer events, one behind another (docs/FORMATS.md): the replies wait. BEFORE ANYTHING OF A REPLY IS CARRIED OUT
  * the host takes the requests, and carries them out on the record in their order; where it can't, it lets the node go and
  * carries out nothing more. DONE: the bytes ended between two events. INVALID: the place is that of the first byte at which no
@@ -211,6 +463,14 @@ static inline uint32_t voumlis_node_replies(struct voumlis_node *node, uint8_t *
     if (!voumlis_takes(node, &room, length, found))
         return VOUMLIS_ARGUMENT;
     return voumlis_proved_node_replies(node, room, length, found);
+}
+
+/* Tells the view that a node is in, and the last that is final. DONE. ARGUMENT: none is open there. */
+static inline uint32_t voumlis_node_views(struct voumlis_node *node, struct voumlis_views *views) {
+    if (!voumlis_holds(node, 1) || !voumlis_lies(views, sizeof *views) || (uintptr_t)views % sizeof(uint64_t) != 0 ||
+        !voumlis_apart(node, sizeof *node, views, sizeof *views))
+        return VOUMLIS_ARGUMENT;
+    return voumlis_proved_node_views(node, views);
 }
 
 /* Lets a node go; its record can be opened again. ARGUMENT: none is open there. */

@@ -1,6 +1,8 @@
 //! A node as the proved library holds it between two calls.
 
 use crate::Found;
+use crate::node::Views;
+use crate::settings::{Numbers, Settings};
 use std::ptr;
 
 /// A node as the library holds it. The pointer is the library's, and keeps this on the thread that opened it.
@@ -12,9 +14,12 @@ pub(crate) struct Handle {
 }
 
 unsafe extern "C" {
-    fn voumlis_proved_node_open(
-        members: u16,
-        member: u16,
+    fn voumlis_proved_node_open_with(
+        numbers: *const Numbers,
+        base: *const u8,
+        base_length: usize,
+        seed: *const u8,
+        seed_length: usize,
         cuts: u32,
         record: *const u8,
         length: usize,
@@ -39,6 +44,7 @@ unsafe extern "C" {
         length: usize,
         found: *mut Found,
     ) -> u32;
+    fn voumlis_proved_node_views(node: *mut Handle, views: *mut Views) -> u32;
     fn voumlis_proved_node_close(node: *mut Handle) -> u32;
 }
 
@@ -54,17 +60,20 @@ impl Handle {
 
     pub(crate) fn open(
         &mut self,
-        members: u16,
-        member: u16,
+        settings: &Settings,
         cuts: bool,
         record: &[u8],
         found: &mut Found,
     ) -> u32 {
-        // SAFETY: a slice with its length, and a handle that is as the library left it, or none.
+        let (numbers, base, seed) = settings.parts();
+        // SAFETY: numbers in the library's form, slices with their lengths, and a handle that is as the library left it, or none.
         unsafe {
-            voumlis_proved_node_open(
-                members,
-                member,
+            voumlis_proved_node_open_with(
+                &numbers,
+                base.as_ptr(),
+                base.len(),
+                seed.as_ptr(),
+                seed.len(),
                 u32::from(cuts),
                 record.as_ptr(),
                 record.len(),
@@ -77,6 +86,14 @@ impl Handle {
     pub(crate) fn step(&mut self, events: &[u8], found: &mut Found) -> u32 {
         // SAFETY: as above.
         unsafe { voumlis_proved_node_step(self, events.as_ptr(), events.len(), found) }
+    }
+
+    /// The views of the node; zeros where no node is open.
+    pub(crate) fn views(&mut self) -> Views {
+        let mut views = Views::default();
+        // SAFETY: a handle that is as the library left it, and views of this frame.
+        unsafe { voumlis_proved_node_views(self, &mut views) };
+        views
     }
 
     /// What the host is asked to do with the record.

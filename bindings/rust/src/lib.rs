@@ -1,16 +1,22 @@
-//! The audit of reports, the check of a record, the reading of a message, and a member's node, by code that is proved.
+//! The audit of reports, the check of a record, the reading of messages and certificates, and a member's node, by code that is proved.
 //!
 //! Safe Rust over the static library `simplex_c`. Its functions ask nothing of numbers and bytes, each slice is passed with its own
 //! length, and a node's handle is written by the library alone, so no call from safe code is undefined. Trusted, beside the proofs:
-//! the declarations below and of the module `handle`, which nothing compares with the library's, and the heap of the module `heap`.
+//! the declarations of foreign functions here, which nothing compares with the library's, and the heap of the module `heap`.
 
+mod attesting;
 mod handle;
 mod heap;
+mod light;
 mod node;
+mod settings;
 pub mod wire;
 
+pub use attesting::{Attestation, attestations};
 use handle::Handle;
-pub use node::{Ending, Node};
+pub use light::{Broken, Certified, Uncertified, certifies, finalized_in};
+pub use node::{Ending, Node, Views};
+pub use settings::{Forwarding, Settings, SettingsError, SettingsFault, Skips};
 
 /// What a call tells beside its status.
 #[repr(C)]

@@ -1,5 +1,6 @@
 //! A member's node over a record in a file.
 
+use crate::settings::{Settings, SettingsError};
 use crate::wire::{Event, Reply};
 use crate::{Found, Handle};
 use std::fs::{File, TryLockError};
@@ -14,7 +15,9 @@ pub enum Ending {
     Closed,
     /// Memory ran out.
     Memory,
-    /// The member isn't one of the committee.
+    /// No node can be opened with the settings.
+    Settings(SettingsError),
+    /// The archive doesn't know what it was asked: it is none that these bindings are for.
     Argument,
     /// At this place of the bytes that were handed in last no event stands.
     NoEvent(u64),
@@ -30,6 +33,16 @@ pub enum Ending {
     NoRecord,
     /// The record's file failed.
     Device,
+}
+
+/// The views of a node.
+#[repr(C)]
+#[derive(Clone, Copy, Debug, Default, PartialEq, Eq)]
+pub struct Views {
+    /// The view that it is in.
+    pub current: u64,
+    /// The last view that is final, or 0.
+    pub finalized: u64,
 }
 
 /// A member's node over a record in a file, which stays on the thread that opened it. One that is let go is told nothing more: its
@@ -52,6 +65,7 @@ fn ending(status: u32, found: &Found) -> Ending {
         9 | 10 => Ending::Device,
         11 => Ending::Torn(found.place),
         12 => Ending::NoRecord,
+        13 | 14 => Ending::Settings(SettingsError::told(status, found)),
         _ => Ending::Argument,
     }
 }
@@ -108,16 +122,14 @@ fn carry_out(file: &File, mut requests: &[u8]) -> Result<(), Error> {
 }
 
 impl Node {
-    /// Opens the record at this path, or makes an empty one, at moment 0, as `member` of `members` (the plain scheme over
-    /// the base `simplex`), and answers what is due at once. The file is looked at first: one that is no record of this member as a
-    /// crash may leave it is left as it is.
+    /// Opens the record at this path, or makes an empty one, at moment 0, as `member` of `members`, set up as by the program
+    /// `simplex node` (the plain scheme over the base `simplex`), and answers what is due at once.
     ///
     /// # Errors
     ///
-    /// [`ErrorKind::InvalidInput`] where there is no such member; those of the file, of which [`ErrorKind::WouldBlock`] says that
-    /// another node has it; and one that holds the [`Ending`] as text, where the record was not opened.
+    /// As of [`Node::open_with`].
     pub fn open(record: &Path, member: u16, members: u16) -> Result<(Node, Reply), Error> {
-        Node::open_over(record, member, members, false)
+        Node::open_with(record, &Settings::new(member.into(), members.into()))
     }
 
     /// The same, where what stands behind the last whole entry is cut, whatever it is, in place of [`Ending::Torn`]. That may take
@@ -125,20 +137,36 @@ impl Node {
     ///
     /// # Errors
     ///
-    /// As of [`Node::open`].
+    /// As of [`Node::open_with`].
     pub fn open_cutting(record: &Path, member: u16, members: u16) -> Result<(Node, Reply), Error> {
-        Node::open_over(record, member, members, true)
+        Node::open_cutting_with(record, &Settings::new(member.into(), members.into()))
     }
 
-    fn open_over(
-        record: &Path,
-        member: u16,
-        members: u16,
-        cuts: bool,
-    ) -> Result<(Node, Reply), Error> {
-        if member >= members {
-            return Err(ErrorKind::InvalidInput.into());
-        }
+    /// Opens the record at this path, or makes an empty one, at moment 0, as the member of these settings, and answers what is due
+    /// at once. The file is looked at first: one that is no record of this member as a crash may leave it is left as it is.
+    ///
+    /// # Errors
+    ///
+    /// [`ErrorKind::InvalidInput`] that holds the [`SettingsError`], where no node can be opened with the settings: then no file was
+    /// touched; those of the file, of which [`ErrorKind::WouldBlock`] says that another node has it; and one that holds the
+    /// [`Ending`] as text, where the record was not opened.
+    pub fn open_with(record: &Path, settings: &Settings) -> Result<(Node, Reply), Error> {
+        Node::open_over(record, settings, false)
+    }
+
+    /// The same, as [`Node::open_cutting`] cuts.
+    ///
+    /// # Errors
+    ///
+    /// As of [`Node::open_with`].
+    pub fn open_cutting_with(record: &Path, settings: &Settings) -> Result<(Node, Reply), Error> {
+        Node::open_over(record, settings, true)
+    }
+
+    fn open_over(record: &Path, settings: &Settings, cuts: bool) -> Result<(Node, Reply), Error> {
+        settings
+            .check()
+            .map_err(|why| Error::new(ErrorKind::InvalidInput, why))?;
         let mut file = opened(record)?;
         let mut stored = Vec::new();
         file.read_to_end(&mut stored)?;
@@ -148,7 +176,7 @@ impl Node {
             ending: None,
         };
         let mut found = Found::default();
-        let status = node.handle.open(members, member, cuts, &stored, &mut found);
+        let status = node.handle.open(settings, cuts, &stored, &mut found);
         let reply = node
             .answered(status, &found)
             .and_then(|replies| one(&replies));
@@ -157,6 +185,11 @@ impl Node {
             Err(_) if node.ending.is_some() => Err(Error::other(format!("{:?}", node.close()))),
             Err(error) => Err(error),
         }
+    }
+
+    /// The view that the node is in, and the last that is final.
+    pub fn views(&mut self) -> Views {
+        self.handle.views()
     }
 
     /// Hands an event in, and answers the reply. By then the record has all that it says.

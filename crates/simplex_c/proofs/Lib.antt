@@ -1,3 +1,1 @@
-pub mod Places
-pub mod Values
-pub mod Looked
+pub mod Unfit

@@ -1,6 +1,3 @@
 pub mod Answers
-pub mod HostedDisk
-pub mod Place
-pub mod Requests
-pub mod Serving
-pub mod Statuses
+pub mod Light
+pub mod Settings

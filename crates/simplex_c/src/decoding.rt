@@ -1,13 +1,13 @@
 //! Messages of any kind, read as far as their refusal.
 
-ghost use Rattle.std.specs.Prelude.{◌≡◌, IfNone, IfSome};
+ghost use Rattle.std.specs.Prelude.{◌≡◌, ◌≢◌, IfNone, IfSome};
 ghost use Rattle.cli_tool.specs.Decoding.{message_size};
 ghost use Rattle.simplex_c.specs.Answers.{Tells, kind_at, refusal_number};
-ghost use Rattle.simplex_c.specs.Statuses.{status_number};
-ghost use Rattle.simplex_c.specs.declared.status.Status.TheVariants.{Argument};
+ghost use Rattle.cli_hosted.specs.Statuses.{status_number};
+ghost use Rattle.cli_hosted.specs.declared.status.Status.TheVariants.{Argument, Done, Memory, Room, Settings as Faulty, Version};
+ghost use Rattle.types_codec.specs.declared.codec.CodecError.TheVariants.{Memory as NoMemory};
 
-use crate::found::Found;
-use crate::status::Status;
+use cli_hosted::{Found, Status};
 use cli_tool::{Kind, message_size};
 use std::alloc::Global;
 use types_core::CodecError;
@@ -40,7 +40,7 @@ pub(crate) fn decoded(
 }
 
 /// The kind that a number names.
-fn kind_of(number: u32) -> Option<Kind>
+pub(crate) fn kind_of(number: u32) -> Option<Kind>
     ensures { result ≡ kind_at number }
 {
     match number {
@@ -53,8 +53,10 @@ fn kind_of(number: u32) -> Option<Kind>
 }
 
 /// The status of a refusal.
-fn refused(refusal: CodecError) -> Status
-    ensures { status_number result ≡ refusal_number refusal }
+pub(crate) fn refused(refusal: CodecError) -> Status
+    ensures number { status_number result ≡ refusal_number refusal }
+    ensures memory { refusal ≡ NoMemory → result ≡ Memory }
+    ensures answers { (result ≢ Done) × ((result ≢ Argument) × ((result ≢ Room) × ((result ≢ Faulty) × (result ≢ Version)))) }
 {
     match refusal {
         CodecError::End => Status::End,

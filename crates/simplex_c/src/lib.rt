@@ -3,26 +3,21 @@
 //! passed.
 #![tactic(auto)]
 
+mod attesting;
 mod decoding;
-mod disk;
-mod found;
-mod handle;
-mod loose;
+mod light;
 mod node;
-mod place;
 mod questions;
-mod requests;
-mod room;
-mod serving;
-mod session;
-mod status;
+mod settings;
 mod told_answers;
+mod with_settings;
 
-pub use found::Found;
-pub use handle::Handle;
+pub use attesting::voumlis_proved_attestations;
+pub use light::{CertifiedNumbers, voumlis_proved_certifies, voumlis_proved_finalized_in};
 pub use node::{
     voumlis_proved_node_close, voumlis_proved_node_open, voumlis_proved_node_replies,
-    voumlis_proved_node_requests, voumlis_proved_node_step,
+    voumlis_proved_node_requests, voumlis_proved_node_step, voumlis_proved_node_views,
 };
-pub use place::Place;
 pub use questions::{voumlis_proved_audit, voumlis_proved_decode, voumlis_proved_first_refused};
+pub use settings::SettingsNumbers;
+pub use with_settings::{voumlis_proved_node_open_with, voumlis_proved_settings_check};

@@ -2,12 +2,12 @@
 
 ghost use Rattle.std.specs.Prelude.{◌≡◌, ◌≢◌, ◌⊎◌, ◌≤◌};
 ghost use Rattle.journal_look.specs.Look.{BeginsLikeOne};
-ghost use Rattle.simplex_c.specs.Serving.{IsLookedAt, IsTornAt, asks};
+ghost use Rattle.cli_hosted.specs.Serving.{IsLookedAt, IsTornAt, asks};
 
-use crate::found::Found;
-use crate::handle::Handle;
-use crate::serving::{closed, opened, replies_taken, requests_taken, stepped};
-use crate::status::Status;
+use cli_hosted::{
+    Found, Handle, Status, Views, closed, opened, replies_taken, requests_taken, stepped,
+    views_told,
+};
 use std::alloc::Global;
 
 /// Opens a member's node at moment 0 over its record's bytes, which the host keeps; what that hands out waits as the first reply.
@@ -102,6 +102,19 @@ pub extern "C" fn voumlis_proved_node_replies(
     ensures statuses { result ≤ 3 }
 {
     replies_taken(alloc, node, room, found).number()
+}
+
+/// Tells the view that a node is in, and the last that is final. Answers 0, or 2 where no node is open.
+#[unsafe(no_mangle)]
+pub extern "C" fn voumlis_proved_node_views(
+    alloc: Global,
+    node: &mut Handle,
+    views: &mut Views,
+) -> u32
+    ensures dead { node.old.live ≢ 1 → (result ≡ 2) × (node.new.live ≡ 0) × (views.new ≡ views.old) }
+    ensures live { node.old.live ≡ 1 → (result ≡ 0) × (node.new.live ≡ 1) }
+{
+    views_told(alloc, node, views).number()
 }
 
 /// Lets a node go. Answers 0, or 2 where none is open.

@@ -5,13 +5,12 @@ ghost use Rattle.journal_single.specs.Record.{IsForeign};
 ghost use Rattle.simplex_record.specs.Lawful.{IsLawful, IsRefusedAt};
 ghost use Rattle.cli_tool.specs.ToolAnswers.{Entry, HoldsEntries, IsEntry, IsEvidence, attests_in, certifies_in, entry_spelling};
 ghost use Rattle.cli_tool.specs.Decoding.{message_size};
-ghost use Rattle.simplex_c.specs.Statuses.{Names};
+ghost use Rattle.cli_hosted.specs.Statuses.{Names};
 ghost use Rattle.simplex_c.specs.Answers.{Tells, kind_at, owner};
 
 use crate::decoding::decoded;
-use crate::found::Found;
-use crate::status::Status;
 use crate::told_answers::{audited, checked};
+use cli_hosted::{Found, Status};
 use simplex_record::Owner;
 use std::alloc::Global;
 use types_core::{Epoch, Participant, TermLength};

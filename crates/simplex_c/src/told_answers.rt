@@ -4,12 +4,10 @@ ghost use Rattle.std.specs.Prelude.{◌≡◌, ◌≢◌, ◌<◌, ◌⊎◌, �
 ghost use Rattle.journal_single.specs.Record.{IsForeign};
 ghost use Rattle.simplex_record.specs.Lawful.{IsLawful, IsRefusedAt};
 ghost use Rattle.cli_tool.specs.ToolAnswers.{Entry, HoldsEntries, IsEntry, IsEvidence, attests_in, certifies_in, entry_spelling};
-ghost use Rattle.simplex_c.specs.Statuses.{Names};
-ghost use Rattle.simplex_c.specs.declared.status.Status.TheVariants.{Done, Foreign as IsForeignEntry, Memory, Refused, Room};
+ghost use Rattle.cli_hosted.specs.Statuses.{Names};
+ghost use Rattle.cli_hosted.specs.declared.status.Status.TheVariants.{Done, Foreign as IsForeignEntry, Memory, Refused, Room};
 
-use crate::found::Found;
-use crate::room::put;
-use crate::status::Status;
+use cli_hosted::{Found, Status, put};
 use cli_tool::{Checked, check_record, evidence_in};
 use simplex_record::Owner;
 use std::alloc::Global;

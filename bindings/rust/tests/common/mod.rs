@@ -1,6 +1,8 @@
 //! The rows of docs/vectors.json, which are from outside the product: a row a line.
 #![allow(dead_code, reason = "each test uses a part")]
 
+pub mod committee;
+
 pub fn rows(list: &str) -> Vec<String> {
     let text = std::fs::read_to_string(concat!(
         env!("CARGO_MANIFEST_DIR"),

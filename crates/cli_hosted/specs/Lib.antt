@@ -1,0 +1,6 @@
+pub mod HostedDisk
+pub mod Members
+pub mod Place
+pub mod Requests
+pub mod Serving
+pub mod Statuses

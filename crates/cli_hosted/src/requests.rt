@@ -1,0 +1,124 @@
+//! What a host is asked to do with the bytes that it keeps.
+
+ghost use Rattle.std.specs.Prelude.{◌≡◌, ◌++◌, ◌≤◌, ◌<◌, [], ◌⊎◌, length, take, Ok, Err, OnErr, OnOk};
+ghost use Rattle.cli_hosted.specs.Requests.{cutting, fixing, number, writing};
+
+use crate::room::put;
+use std::alloc::{AllocError, Global};
+use std::cell::RefCell;
+use std::rc::Rc;
+
+/// What was asked and was not taken yet, the oldest first. It is shared by the disk, which adds to it, and by whoever takes it.
+#[derive(Drop)]
+pub(crate) struct Requests {
+    list: Rc<RefCell<Vec<u8>>>,
+}
+
+impl Requests {
+    /// Nothing was asked.
+    pub(crate) fn new(alloc: Global) -> Result<Requests, AllocError> {
+        Ok(Requests {
+            list: Rc::new(alloc, RefCell::new(Vec::new(alloc)))?,
+        })
+    }
+
+    /// The same list once more.
+    pub(crate) fn shared(&self) -> Result<Requests, AllocError> {
+        Ok(Requests {
+            list: Rc::clone(&self.list)?,
+        })
+    }
+
+    /// Puts all that was asked at the front of the room and forgets it, where it fits, and answers its size.
+    pub(crate) fn take(&self, room: &mut [u8]) -> Result<usize, usize>
+        ensures { OnErr result (room.new ≡ room.old) }
+    {
+        match self.list.try_borrow_mut() {
+            Ok(mut list) => take_all(&mut list, room),
+            Err(_) => Err(usize::MAX),
+        }
+    }
+
+    /// Asks to write bytes from a place on. Where there is no memory for that, nothing is asked.
+    pub(crate) fn write(&self, at: u64, bytes: &[u8]) -> Result<(), AllocError> {
+        match self.list.try_borrow_mut() {
+            Ok(mut list) => push_writing(&mut list, at, bytes),
+            Err(_) => Err(AllocError),
+        }
+    }
+
+    /// Asks to cut off all behind a length.
+    pub(crate) fn cut(&self, len: u64) -> Result<(), AllocError> {
+        match self.list.try_borrow_mut() {
+            Ok(mut list) => push_cutting(&mut list, len),
+            Err(_) => Err(AllocError),
+        }
+    }
+
+    /// Asks to fix what stands there.
+    pub(crate) fn sync(&self) -> Result<(), AllocError> {
+        match self.list.try_borrow_mut() {
+            Ok(mut list) => push_fixing(&mut list),
+            Err(_) => Err(AllocError),
+        }
+    }
+}
+
+/// Puts all at the front of the room and empties the list, where it fits, and answers its size.
+pub(crate) fn take_all(list: &mut Vec<u8>, room: &mut [u8]) -> Result<usize, usize>
+    ensures taken { OnOk result (list.new.items ≡ []) }
+    ensures done { OnOk result ((length list.old.items ≤ length room.old) × (take (length list.old.items) room.new ≡ list.old.items)) }
+    ensures size { (size : _) → (result ≡ Ok size ⊎ result ≡ Err size) → size ≡ length list.old.items }
+    ensures no_room { OnErr result (length room.old < length list.old.items) }
+    ensures unwritten { OnErr result (room.new ≡ room.old) }
+    ensures kept { OnErr result (list.new.items ≡ list.old.items) }
+{
+    let size = list.len();
+    if !put(list.as_slice(), room) {
+        return Err(size);
+    }
+    list.clear();
+    Ok(size)
+}
+
+/// Ends the list with this request, or leaves it as it was.
+fn push_writing(list: &mut Vec<u8>, at: u64, bytes: &[u8]) -> Result<(), AllocError>
+    ensures ok { OnOk result (list.new.items ≡ list.old.items ++ writing at bytes.now) }
+    ensures same { OnErr result (list.new.items ≡ list.old.items) }
+{
+    // Whatever memory may refuse comes before the first byte.
+    list.reserve(bytes.len() + 17)?;
+    list.push(0).unwrap();
+    list.extend_from_slice(&number(at)).unwrap();
+    list.extend_from_slice(&number(bytes.len() as u64)).unwrap();
+    list.extend_from_slice(bytes).unwrap();
+    Ok(())
+}
+
+/// Ends the list with this request, or leaves it as it was.
+fn push_cutting(list: &mut Vec<u8>, len: u64) -> Result<(), AllocError>
+    ensures ok { OnOk result (list.new.items ≡ list.old.items ++ cutting len) }
+    ensures same { OnErr result (list.new.items ≡ list.old.items) }
+{
+    list.reserve(9)?;
+    list.push(1).unwrap();
+    list.extend_from_slice(&number(len)).unwrap();
+    Ok(())
+}
+
+/// Ends the list with this request, or leaves it as it was.
+fn push_fixing(list: &mut Vec<u8>) -> Result<(), AllocError>
+    ensures ok { OnOk result (list.new.items ≡ list.old.items ++ fixing) }
+    ensures same { OnErr result (list.new.items ≡ list.old.items) }
+{
+    list.push(2)?;
+    Ok(())
+}
+
+/// A number as bytes.
+#[tactic(auto, unfolding(crate::specs::Requests::number))]
+fn number(n: u64) -> [u8; 8]
+    ensures { result ≡ number n }
+{
+    n.to_be_bytes()
+}

@@ -1,0 +1,337 @@
+//! Calls on a member's node.
+
+ghost use Rattle.std.specs.Prelude.{◌≡◌, ◌≢◌, ◌<◌, ◌≤◌, ◌⊎◌, Ok, Err, IfErr, IfOk, false, true};
+ghost use Rattle.journal_look.specs.Look.{BeginsLikeOne};
+ghost use Rattle.cli_settings.specs.Checking.{HasTurns, IsGood};
+ghost use Rattle.cli_opening.specs.Looking.{IsBeyondCut};
+ghost use Rattle.cli_hosted.specs.Members.{IsBarredFor, IsFoundFor, owner_of};
+ghost use Rattle.cli_hosted.specs.Statuses.{Names, status_number};
+ghost use Rattle.cli_hosted.specs.Serving.{IsLookedAt, IsLookedAtBy, IsTornAt, IsTornBy, barred_place, barred_status, ending_status, run_place, run_status, unopened_place, unopened_status, unstepped_status};
+ghost use Rattle.cli_hosted.specs.declared.status.Status.TheVariants.{Argument, Device, Done, Foreign, Invalid, NoRecord, Refused, Room, Torn};
+
+use crate::found::Found;
+use crate::handle::Handle;
+use crate::requests::take_all;
+use crate::session::Session;
+use crate::status::Status;
+use crate::views::Views;
+use cli_opening::{Barred, Found as Looked, look_at, look_at_by};
+use cli_settings::Settings;
+use simplex_member::{IoFault, NodeFault, OpenFault};
+use simplex_record::Owner;
+use std::alloc::Global;
+use types_core::{Participant, TermLength};
+
+/// Opens a member's node over its record, where none is open yet and these bytes are one as a crash may leave it. Where `cuts`, its last
+/// gate and what stands behind it may be anything.
+#[tactic(auto, using(crate::proofs::Looked::named_by, crate::proofs::Looked::never_done, crate::proofs::Looked::no_record_by, crate::proofs::Looked::torn_by, crate::proofs::Looked::unnamed_by))]
+pub fn opened(
+    alloc: Global,
+    members: u16,
+    member: u16,
+    cuts: bool,
+    stored: &[u8],
+    node: &mut Handle,
+    found: &mut Found,
+) -> Status
+    requires { member < members }
+    ensures opened { result ≡ Done → node.new.live ≡ 1 }
+    ensures unopened { result ≢ Done → node.new ≡ node.old }
+    ensures looked { result ≡ Done → IsLookedAt member members cuts stored.now }
+    ensures torn { result ≡ Torn → (cuts ≡ false) × IsTornAt member members stored.now found.new.place }
+    ensures no_record { result ≡ NoRecord → ¬ BeginsLikeOne stored.now }
+    ensures named { (result ≡ Refused) ⊎ ((result ≡ Foreign) ⊎ (result ≡ Torn)) → found.new.named ≡ 1 }
+    ensures unnamed { (result ≡ Done) ⊎ ((result ≡ Device) ⊎ (result ≡ NoRecord)) → found.new.named ≡ 0 }
+    ensures bound { status_number result ≤ 12 }
+{
+    match look_at(alloc, stored, member, members, cuts) {
+        Ok(_) => begun(Session::open(alloc, members, member, stored), node, found),
+        Err(why) => left(why, found),
+    }
+}
+
+/// The same of a member that is set up by these settings.
+#[tactic(auto, using(crate::proofs::Looked::named_by, crate::proofs::Looked::never_done, crate::proofs::Looked::no_record_by, crate::proofs::Looked::torn_by, crate::proofs::Looked::unnamed_by))]
+pub fn opened_by(
+    alloc: Global,
+    settings: &Settings,
+    cuts: bool,
+    stored: &[u8],
+    node: &mut Handle,
+    found: &mut Found,
+) -> Status
+    requires { IsGood settings.now }
+    ensures opened { result ≡ Done → node.new.live ≡ 1 }
+    ensures unopened { result ≢ Done → node.new ≡ node.old }
+    ensures looked { result ≡ Done → IsLookedAtBy settings.now cuts stored.now }
+    ensures torn { result ≡ Torn → (cuts ≡ false) × IsTornBy settings.now stored.now found.new.place }
+    ensures no_record { result ≡ NoRecord → ¬ BeginsLikeOne stored.now }
+    ensures named { (result ≡ Refused) ⊎ ((result ≡ Foreign) ⊎ (result ≡ Torn)) → found.new.named ≡ 1 }
+    ensures unnamed { (result ≡ Done) ⊎ ((result ≡ Device) ⊎ (result ≡ NoRecord)) → found.new.named ≡ 0 }
+    ensures bound { status_number result ≤ 12 }
+{
+    match look_by(alloc, settings, cuts, stored) {
+        Ok(_) => begun(Session::open_by(alloc, settings, stored), node, found),
+        Err(why) => left(why, found),
+    }
+}
+
+/// Looks at a record's bytes, as the member of these settings has it.
+fn look_by(alloc: Global, settings: &Settings, cuts: bool, stored: &[u8]) -> Result<Looked, Barred>
+    requires { IsGood settings.now }
+    ensures found { IfOk result (IsFoundFor settings.now cuts stored.now) }
+    ensures barred { IfErr result (IsBarredFor settings.now stored.now) }
+    ensures cut { IfErr result (λ why. cuts ≡ true → IsBeyondCut why) }
+{
+    match settings.committee.scheme(alloc, None) {
+        Ok(scheme) => look_at_by(alloc, stored, &scheme, owner_by(settings), cuts),
+        Err(_) => Err(Barred::Memory),
+    }
+}
+
+/// Whose record a member's is by its settings.
+fn owner_by(settings: &Settings) -> Owner
+    requires { HasTurns settings.now.committee.turns }
+    ensures { result ≡ owner_of settings.now }
+{
+    let committee = &settings.committee;
+    Owner {
+        epoch: committee.epoch,
+        term_length: TermLength::new(committee.turns.length),
+        signer: Participant::new(settings.member),
+    }
+}
+
+/// What became of an opening.
+fn begun(opening: Result<Box<Session>, OpenFault>, node: &mut Handle, found: &mut Found) -> Status
+    ensures opened { result ≡ Done → node.new.live ≡ 1 }
+    ensures unopened { result ≢ Done → node.new ≡ node.old }
+    ensures bound { status_number result ≤ 10 }
+    ensures named { (result ≡ Refused) ⊎ (result ≡ Foreign) → found.new.named ≡ 1 }
+    ensures unnamed { (result ≡ Done) ⊎ (result ≡ Device) → found.new.named ≡ 0 }
+{
+    match opening {
+        Ok(session) => {
+            found.tell(0, None);
+            *node = Handle::of(session);
+            Status::Done
+        }
+        Err(fault) => unopened(fault, found),
+    }
+}
+
+/// Why bytes are left as they are, and the place that is named, if one is.
+fn left(why: Barred, found: &mut Found) -> Status
+    ensures status { result ≡ barred_status why }
+    ensures place { Names found.new.named found.new.place (barred_place why) }
+    ensures bound { status_number result ≤ 12 }
+{
+    found.tell(0, place_of(why));
+    match why {
+        Barred::Memory => Status::Memory,
+        Barred::Device => Status::Device,
+        Barred::NoRecord => Status::NoRecord,
+        Barred::Foreign(_) => Status::Foreign,
+        Barred::Unlawful(_) => Status::Refused,
+        Barred::Unclosed(_) | Barred::Behind(_) => Status::Torn,
+    }
+}
+
+/// The place that is named with that.
+fn place_of(why: Barred) -> Option<u64>
+    ensures { result ≡ barred_place why }
+{
+    match why {
+        Barred::Foreign(place) | Barred::Unclosed(place) | Barred::Behind(place) => Some(place),
+        Barred::Unlawful(position) => Some(position as u64),
+        Barred::Memory | Barred::Device | Barred::NoRecord => None,
+    }
+}
+
+/// Has the node answer events.
+pub fn stepped(alloc: Global, node: &mut Handle, events: &[u8], found: &mut Found) -> Status
+    ensures dead { node.old.live ≢ 1 → (result ≡ Argument) × (node.new.live ≡ 0) }
+    ensures live { node.old.live ≡ 1 → node.new.live ≡ 1 }
+    ensures named { result ≡ Invalid → found.new.named ≡ 1 }
+    ensures unnamed { result ≢ Invalid → result ≢ Argument → found.new.named ≡ 0 }
+    ensures bound { status_number result ≤ 10 }
+{
+    let Some(mut session) = node.taken(alloc) else {
+        return Status::Argument;
+    };
+    let ended = session.step(alloc, events);
+    *node = Handle::of(session);
+    told(ended, found)
+}
+
+/// Puts what the host is asked at the front of the room, where it fits.
+pub fn requests_taken(
+    alloc: Global,
+    node: &mut Handle,
+    room: &mut [u8],
+    found: &mut Found,
+) -> Status
+    ensures dead { node.old.live ≢ 1 → (result ≡ Argument) × (node.new.live ≡ 0) }
+    ensures live { node.old.live ≡ 1 → node.new.live ≡ 1 }
+    ensures answers { (result ≡ Done) ⊎ ((result ≡ Argument) ⊎ (result ≡ Room)) }
+    ensures unwritten { result ≢ Done → room.new ≡ room.old }
+    ensures unnamed { result ≢ Argument → found.new.named ≡ 0 }
+{
+    let Some(session) = node.taken(alloc) else {
+        return Status::Argument;
+    };
+    let taken = session.requests().take(room);
+    *node = Handle::of(session);
+    fitted(taken, found)
+}
+
+/// Puts the replies at the front of the room, where they fit.
+pub fn replies_taken(alloc: Global, node: &mut Handle, room: &mut [u8], found: &mut Found) -> Status
+    ensures dead { node.old.live ≢ 1 → (result ≡ Argument) × (node.new.live ≡ 0) }
+    ensures live { node.old.live ≡ 1 → node.new.live ≡ 1 }
+    ensures answers { (result ≡ Done) ⊎ ((result ≡ Argument) ⊎ (result ≡ Room)) }
+    ensures unwritten { result ≢ Done → room.new ≡ room.old }
+    ensures unnamed { result ≢ Argument → found.new.named ≡ 0 }
+{
+    let Some(mut session) = node.taken(alloc) else {
+        return Status::Argument;
+    };
+    let taken = take_all(session.replies(), room);
+    *node = Handle::of(session);
+    fitted(taken, found)
+}
+
+/// Tells the view that the node is in, and the last that is final.
+pub fn views_told(alloc: Global, node: &mut Handle, views: &mut Views) -> Status
+    ensures dead { node.old.live ≢ 1 → (result ≡ Argument) × (node.new.live ≡ 0) × (views.new ≡ views.old) }
+    ensures live { node.old.live ≡ 1 → (result ≡ Done) × (node.new.live ≡ 1) }
+{
+    let Some(session) = node.taken(alloc) else {
+        return Status::Argument;
+    };
+    let (current, finalized) = session.views();
+    *node = Handle::of(session);
+    views.current = current;
+    views.finalized = finalized;
+    Status::Done
+}
+
+/// Lets the node go.
+pub fn closed(alloc: Global, node: &mut Handle) -> Status
+    ensures live { node.old.live ≡ 1 → result ≡ Done }
+    ensures dead { node.old.live ≢ 1 → result ≡ Argument }
+    ensures left { node.new.live ≡ 0 }
+{
+    match node.taken(alloc) {
+        Some(_) => Status::Done,
+        None => Status::Argument,
+    }
+}
+
+/// Whether an answer fitted, and its size.
+fn fitted(taken: Result<usize, usize>, found: &mut Found) -> Status
+    ensures done { result ≡ Done → taken ≡ Ok found.new.length }
+    ensures room { result ≢ Done → (result ≡ Room) × (taken ≡ Err found.new.length) }
+    ensures unnamed { found.new.named ≡ 0 }
+{
+    match taken {
+        Ok(size) => {
+            found.tell(size, None);
+            Status::Done
+        }
+        Err(size) => {
+            found.tell(size, None);
+            Status::Room
+        }
+    }
+}
+
+/// How a call over events ended, and the place that is named, if one is.
+fn told(ended: Result<(), IoFault>, found: &mut Found) -> Status
+    ensures status { result ≡ run_status ended }
+    ensures place { Names found.new.named found.new.place (run_place ended) }
+    ensures named { result ≡ Invalid → found.new.named ≡ 1 }
+    ensures unnamed { result ≢ Invalid → found.new.named ≡ 0 }
+    ensures bound { status_number result ≤ 10 }
+{
+    match ended {
+        Ok(()) => {
+            found.tell(0, None);
+            Status::Done
+        }
+        Err(IoFault::BadEvent(place)) => {
+            found.tell(0, Some(place));
+            Status::Invalid
+        }
+        Err(fault) => {
+            found.tell(0, None);
+            ending(fault)
+        }
+    }
+}
+
+/// Why a call over events ended before them.
+fn ending(fault: IoFault) -> Status
+    ensures status { result ≡ ending_status fault }
+    ensures bound { status_number result ≤ 10 }
+{
+    match fault {
+        IoFault::Read => Status::TooLong,
+        IoFault::Write | IoFault::Memory => Status::Memory,
+        IoFault::BadEvent(_) => Status::Invalid,
+        IoFault::Node(fault) => unstepped(fault),
+    }
+}
+
+/// Why a record was not opened, and the place that is named, if one is.
+fn unopened(fault: OpenFault, found: &mut Found) -> Status
+    ensures status { result ≡ unopened_status fault }
+    ensures place { Names found.new.named found.new.place (unopened_place fault) }
+    ensures named { (result ≡ Refused) ⊎ (result ≡ Foreign) → found.new.named ≡ 1 }
+    ensures unnamed { (result ≡ Done) ⊎ (result ≡ Device) → found.new.named ≡ 0 }
+    ensures bound { status_number result ≤ 10 }
+{
+    match fault {
+        OpenFault::Foreign(place) => {
+            found.tell(0, Some(place));
+            Status::Foreign
+        }
+        OpenFault::Contradiction(position) => {
+            found.tell(0, Some(position as u64));
+            Status::Refused
+        }
+        fault => {
+            found.tell(0, None);
+            placeless(fault)
+        }
+    }
+}
+
+/// The same where no place is named.
+fn placeless(fault: OpenFault) -> Status
+    ensures status { result ≡ unopened_status fault }
+    ensures bound { status_number result ≤ 10 }
+{
+    match fault {
+        OpenFault::Foreign(_) => Status::Foreign,
+        OpenFault::Contradiction(_) => Status::Refused,
+        OpenFault::Device => Status::Device,
+        OpenFault::Memory => Status::Memory,
+        OpenFault::NoKey
+        | OpenFault::Config(_)
+        | OpenFault::MomentTooLate
+        | OpenFault::TooManyOptimistic => Status::Argument,
+    }
+}
+
+/// Why a step failed.
+fn unstepped(fault: NodeFault) -> Status
+    ensures status { result ≡ unstepped_status fault }
+    ensures bound { status_number result ≤ 10 }
+{
+    match fault {
+        NodeFault::Memory => Status::Memory,
+        NodeFault::Device => Status::Device,
+        NodeFault::Failed => Status::Failed,
+    }
+}

@@ -1,0 +1,254 @@
+//! A member's node between two calls.
+
+ghost use Rattle.std.specs.Prelude.{◌≡◌, ◌<◌, ◌++◌, ℕ, IfOk, None, Some};
+ghost use Rattle.cli_settings.specs.Building.{config_of};
+ghost use Rattle.cli_settings.specs.Checking.{IsGood};
+ghost use Rattle.cli_hosted.specs.Members.{AreLeaders, PlainReply, committee_of};
+ghost use Rattle.simplex_member.specs.declared.action.Reply.{Reply};
+ghost use Rattle.simplex_member.specs.Setup.{setup_of};
+ghost use Rattle.node_steps.specs.Keeps.{AtOwn};
+ghost use Rattle.node_steps.specs.Opening.{IsOpenAndSettled};
+ghost use Rattle.simplex_node.specs.Running.{RunFails, RunsTo};
+ghost use Rattle.node_wire.specs.Streaming.{EndsIn, spelled};
+ghost use Rattle.types_terms.specs.Rotation.{Rotation};
+
+use crate::disk::HostedDisk;
+use crate::requests::Requests;
+use cli_settings::Settings;
+use journal_single::Disk;
+use node_steps::Node;
+use node_wire::CountedWriter;
+use simplex_cli::{config, elector, scheme};
+use simplex_member::{IoFault, OpenFault, Reply, Speaks};
+use simplex_node::{open_io, run_io};
+use simplex_types::{AttestationList, PlainKey, PlainScheme, PlainSignature};
+use std::alloc::{AllocError, Global};
+use std::marker::Model;
+use std::mem;
+use std::rc::Rc;
+use types_core::{Digest, Scheme, Sha256Digest, Write};
+use types_terms::Elector;
+use types_terms::elector::RoundRobinElector;
+use voter_rules::config::Config;
+
+/// A member's node over a disk that a host keeps.
+type Hosted = Node<PlainScheme, RoundRobinElector, Sha256Digest, HostedDisk>;
+
+/// A member's node, what it asks of the host that keeps its record, and the replies that were not taken yet.
+pub(crate) struct Session {
+    node: Hosted,
+    requests: Requests,
+    replies: Vec<u8>,
+}
+
+// The node lets itself go: so it is proved where a node is defined, and not once more here for all that it is made of.
+impl Drop for Session {
+    fn drop(self) {
+        let Session {
+            node,
+            requests: _,
+            replies: _,
+        } = self;
+        drop(node.close());
+    }
+}
+
+// Nothing of a node is told between two calls.
+impl Model for Session {
+    ghost use Rattle.std.specs.Prelude.{⊤};
+
+    ghost Value = { ⊤ };
+
+    ghost view = { λ _. tt };
+}
+
+impl Session {
+    /// Opens a member's node over its record at moment 0, set up as the program's; what that hands out is the first reply.
+    pub(crate) fn open(
+        alloc: Global,
+        members: u16,
+        member: u16,
+        stored: &[u8],
+    ) -> Result<Box<Session>, OpenFault>
+        requires { member < members }
+    {
+        let Ok((disk, requests)) = hosted(alloc, stored) else {
+            return Err(OpenFault::Memory);
+        };
+        let mut replies = Vec::new(alloc);
+        let node = set_up(alloc, members, member, disk, &mut replies);
+        held(alloc, node, requests, replies)
+    }
+
+    /// The same, set up by these settings.
+    pub(crate) fn open_by(
+        alloc: Global,
+        settings: &Settings,
+        stored: &[u8],
+    ) -> Result<Box<Session>, OpenFault>
+        requires { IsGood settings.now }
+    {
+        let Ok((disk, requests)) = hosted(alloc, stored) else {
+            return Err(OpenFault::Memory);
+        };
+        let mut replies = Vec::new(alloc);
+        let node = set_up_by(alloc, settings, disk, &mut replies);
+        held(alloc, node, requests, replies)
+    }
+
+    /// Answers events, one behind another; the replies are put behind those that were not taken yet.
+    pub(crate) fn step(&mut self, alloc: Global, events: &[u8]) -> Result<(), IoFault> {
+        go_on(alloc, &mut self.node, events, &mut self.replies)
+    }
+
+    /// What the host is asked to do.
+    pub(crate) fn requests(&self) -> &Requests {
+        &self.requests
+    }
+
+    /// The replies that were not taken yet.
+    pub(crate) fn replies(&mut self) -> &mut Vec<u8> {
+        &mut self.replies
+    }
+
+    /// The view that the node is in, and the last that is final.
+    pub(crate) fn views(&self) -> (u64, u64) {
+        let current = self.node.current_view().get();
+        (current, self.node.last_finalized().get())
+    }
+}
+
+/// A disk over these bytes, and what it asks.
+fn hosted(alloc: Global, stored: &[u8]) -> Result<(HostedDisk, Requests), AllocError> {
+    let requests = Requests::new(alloc)?;
+    let shared = requests.shared()?;
+    let stored = Vec::from_slice(alloc, stored)?;
+    Ok((HostedDisk::over(alloc, stored, shared), requests))
+}
+
+/// A value in a box.
+fn boxed<T: Drop>(alloc: Global, value: T) -> Result<Box<T>, OpenFault>
+    ensures { IfOk result (λ it. it.value ≡ value) }
+{
+    match Box::new(alloc, value) {
+        Ok(value) => Ok(value),
+        Err(_) => Err(OpenFault::Memory),
+    }
+}
+
+/// The session of a node, where it was opened.
+fn held(
+    alloc: Global,
+    node: Result<Hosted, OpenFault>,
+    requests: Requests,
+    replies: Vec<u8>,
+) -> Result<Box<Session>, OpenFault> {
+    match node {
+        Ok(node) => boxed(
+            alloc,
+            Session {
+                node,
+                requests,
+                replies,
+            },
+        ),
+        Err(fault) => Err(fault),
+    }
+}
+
+/// The node of a member over this disk, set up as the program's, and its first reply.
+fn set_up<K: Disk>(
+    alloc: Global,
+    members: u16,
+    member: u16,
+    disk: K,
+    replies: &mut Vec<u8>,
+) -> Result<Node<PlainScheme, RoundRobinElector, Sha256Digest, K>, OpenFault>
+    requires { member < members }
+{
+    let Ok(scheme) = scheme(alloc, member, members) else {
+        return Err(OpenFault::Memory);
+    };
+    let Ok(elector) = elector(alloc, members) else {
+        return Err(OpenFault::Memory);
+    };
+    begin(alloc, config(), scheme, elector, disk, replies)
+}
+
+/// The node of a member over this disk, set up by its settings, and its first reply.
+fn set_up_by<K: Disk>(
+    alloc: Global,
+    settings: &Settings,
+    disk: K,
+    replies: &mut Vec<u8>,
+) -> Result<Node<PlainScheme, RoundRobinElector, Sha256Digest, K>, OpenFault>
+    requires { IsGood settings.now }
+    ensures opened { IfOk result (λ node.
+        (leaders : Rotation) × (first : PlainReply) × AreLeaders settings.now.committee leaders × (first.refused ≡ None) ×
+        (replies.new.items ≡ replies.old.items ++ spelled ⟦<PlainKey as Write>⟧.spelling ⟦<Sha256Digest as Write>⟧.spelling
+        ⟦<PlainSignature as Write>⟧.spelling ⟦<AttestationList<PlainSignature> as Write>⟧.spelling first) ×
+        IsOpenAndSettled ⟦<PlainScheme as Scheme<Sha256Digest>>⟧ ⟦<RoundRobinElector as Elector<PlainScheme, Sha256Digest>>⟧ K.Disk
+        (⟦<PlainScheme as Speaks<Sha256Digest>>⟧.formats settings.now.committee.members)
+        (setup_of ⟦<PlainScheme as Scheme<Sha256Digest>>⟧ ⟦<RoundRobinElector as Elector<PlainScheme, Sha256Digest>>⟧
+        (config_of settings.now) (committee_of settings.now) leaders settings.now.member)
+        ⟦<PlainScheme as Speaks<Sha256Digest>>⟧.readable disk 0 node first.actions.items) }
+{
+    let Ok(scheme) = settings.scheme(alloc) else {
+        return Err(OpenFault::Memory);
+    };
+    let Ok(elector) = settings.committee.elector(alloc) else {
+        return Err(OpenFault::Memory);
+    };
+    begin(alloc, settings.config(), scheme, elector, disk, replies)
+}
+
+/// Opens a member's record at moment 0, and spells what that hands out as a reply.
+fn begin<S: Scheme<D> + Drop, L: Elector<S, D>, D: Digest, K: Disk>(
+    alloc: Global,
+    config: Config<D>,
+    scheme: Rc<S>,
+    elector: L,
+    disk: K,
+    replies: &mut Vec<u8>,
+) -> Result<Node<S, L, D, K>, OpenFault>
+    requires { L.built_for elector (S.size scheme.value) }
+    ensures opened { IfOk result (λ node.
+        (index : ℕ) × (first : Reply S D S.PublicKey S.Signature S.Certificate) × (S.own scheme.value ≡ Some index) × (first.refused ≡ None)
+        ×
+        (replies.new.items ≡ replies.old.items ++ spelled S.PublicKey.spelling D.spelling S.Signature.spelling S.Certificate.spelling first)
+        × IsOpenAndSettled S.Scheme L.Elector K.Disk (⟦<S as Speaks<D>>⟧.formats (S.size scheme.value))
+        (setup_of S.Scheme L.Elector config scheme.value elector index) ⟦<S as Speaks<D>>⟧.readable disk 0 node first.actions.items) }
+{
+    let mut output = CountedWriter::new(mem::replace(replies, Vec::new(alloc)));
+    let opened = open_io(alloc, config, scheme, elector, disk, 0, &mut output);
+    *replies = output.into_inner();
+    match opened {
+        Ok((node, written)) => match written {
+            Ok(()) => Ok(node),
+            Err(_) => {
+                drop(node.close());
+                Err(OpenFault::Memory)
+            }
+        },
+        Err((fault, _)) => Err(fault),
+    }
+}
+
+/// Answers events, one behind another.
+fn go_on<S: Scheme<D> + Drop, L: Elector<S, D>, D: Digest, K: Disk>(
+    alloc: Global,
+    node: &mut Node<S, L, D, K>,
+    events: &[u8],
+    replies: &mut Vec<u8>,
+) -> Result<(), IoFault>
+    ensures { AtOwn S.Scheme L.Elector K.Disk ⟦<S as Speaks<D>>⟧.formats node.old (λ f s h.
+        EndsIn D.fits D.spelling (spelled S.PublicKey.spelling D.spelling S.Signature.spelling S.Certificate.spelling) (D.reading 65535)
+        (RunsTo S.Scheme L.Elector K.Disk f s h node.new) (RunFails S.Scheme L.Elector K.Disk f s h node.new) ⊥ result (Some events.now)
+        (Some replies.old.items) (Some replies.new.items)) }
+{
+    let mut input = events;
+    let mut output = CountedWriter::new(mem::replace(replies, Vec::new(alloc)));
+    let ended = run_io(alloc, node, &mut input, &mut output);
+    *replies = output.into_inner();
+    ended
+}

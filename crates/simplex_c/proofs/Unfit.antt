@@ -1,0 +1,81 @@
+-- What numbers don't say, and how that is told.
+use Rattle.std.proofs.Common.{◌≡◌, ◌≢◌, ◌⊎◌, ◌<◌, inl, inr, ℕ, List, Bool, true, false, Option, None, Some, arith, subst, sym, refl}
+use Rattle.voter_rules.specs.declared.config.ForwardPolicy.{ForwardPolicy}
+use Rattle.voter_rules.specs.declared.config.ForwardPolicy.TheVariants as forward
+use Rattle.voter_rules.specs.declared.config.SkipBudget.TheVariants as budget
+use Rattle.voter_rules.specs.declared.config.SkipPolicy.{SkipPolicy}
+use Rattle.voter_rules.specs.declared.config.SkipPolicy.TheVariants as skip
+use Rattle.cli_settings.specs.declared.setting.Settings.{Settings}
+use Rattle.cli_settings.specs.declared.setting.Conduct.{Conduct}
+use Rattle.cli_settings.specs.Building.{seed_of}
+use Rattle.cli_hosted.specs.Statuses.{Names}
+use Rattle.cli_hosted.specs.declared.status.Status.TheVariants as status
+use Rattle.simplex_c.specs.Settings.{HasFault, HasForm, IsUnfit, SaysConduct, SaysNothing, SaysSeed, SaysSettings, SaysSkip, forward_number, truth_number, unfit_place, unfit_status}
+use Rattle.simplex_c.specs.declared.settings.SettingsNumbers.{SettingsNumbers}
+use Rattle.simplex_c.specs.declared.settings.Unfit.{Unfit}
+use Rattle.simplex_c.specs.declared.settings.Unfit.TheVariants as unfit
+
+-- no policy has a number above those that are known
+pub no_skip : (n : SettingsNumbers) → 2 < n.skips → (p : SkipPolicy) → ¬ SaysSkip n p
+no_skip n above skip.Disabled says = absurd (omega (arith, above, says))
+no_skip n above (skip.Enabled timeout budget.Participants) says = absurd (omega (arith, above, says.0))
+no_skip n above (skip.Enabled timeout (budget.Fixed terms)) says = absurd (omega (arith, above, says.0))
+
+pub no_forward : (number : ℕ) → 2 < number → (p : ForwardPolicy) → number ≢ forward_number p
+no_forward number above forward.Disabled says = absurd (omega (arith, above, says))
+no_forward number above forward.SilentVoters says = absurd (omega (arith, above, says))
+no_forward number above forward.SilentLeader says = absurd (omega (arith, above, says))
+
+pub no_truth : (number : ℕ) → 1 < number → (b : Bool) → number ≢ truth_number b
+no_truth number above false says = absurd (omega (arith, above, says))
+no_truth number above true says = absurd (omega (arith, above, says))
+
+-- nor has a seed, or none
+pub no_seed : (n : SettingsNumbers) → ((b : Bool) → n.shuffled ≢ truth_number b) → (seed : List ℕ) → (used : Option (List ℕ)) → ¬ SaysSeed n seed used
+no_seed n never seed None says = never false says
+no_seed n never seed (Some used) says = never true says.0
+
+-- so what says no conduct, or nothing of a seed, says no settings
+pub nothing_of_conduct : (n : SettingsNumbers) (base seed : List ℕ) → ((c : Conduct) → ¬ SaysConduct n c) → SaysNothing n base seed
+nothing_of_conduct n base seed never = λ s says. never s.conduct says.conduct
+
+pub nothing_of_seed : (n : SettingsNumbers) (base seed : List ℕ) → ((b : Bool) → n.shuffled ≢ truth_number b) → SaysNothing n base seed
+nothing_of_seed n base seed never = λ s says. no_seed n never seed (seed_of s.committee) says.committee.seed_is
+
+-- what is told for a fault, for another form, and for numbers that say nothing
+pub fault_by : (n : SettingsNumbers) (base seed : List ℕ) (named place : ℕ) (why : Unfit) → unfit_status why ≡ status.Settings → IsUnfit n base seed why
+    → Names named place (unfit_place why) → HasFault n base seed place
+fault_by n base seed named place unfit.Memory is holds names = absurd cc
+fault_by n base seed named place unfit.Form is holds names = absurd cc
+fault_by n base seed named place unfit.Number is holds names = absurd cc
+fault_by n base seed named place (unfit.Fault f) is holds names = subst (λ (p : ℕ). HasFault n base seed p) (sym names.1) holds
+
+pub form_by : (n : SettingsNumbers) (base seed : List ℕ) (why : Unfit) → unfit_status why ≡ status.Version → IsUnfit n base seed why → ¬ HasForm n
+form_by n base seed unfit.Memory is holds = absurd cc
+form_by n base seed unfit.Form is holds = holds
+form_by n base seed unfit.Number is holds = absurd cc
+form_by n base seed (unfit.Fault f) is holds = absurd cc
+
+pub nothing_by : (n : SettingsNumbers) (base seed : List ℕ) (why : Unfit) → unfit_status why ≡ status.Argument → IsUnfit n base seed why → SaysNothing n base seed
+nothing_by n base seed unfit.Memory is holds = absurd cc
+nothing_by n base seed unfit.Form is holds = absurd cc
+nothing_by n base seed unfit.Number is holds = holds
+nothing_by n base seed (unfit.Fault f) is holds = absurd cc
+
+pub place_by : (named place : ℕ) (why : Unfit) → unfit_status why ≡ status.Settings → Names named place (unfit_place why) → named ≡ 1
+place_by named place unfit.Memory is names = absurd cc
+place_by named place unfit.Form is names = absurd cc
+place_by named place unfit.Number is names = absurd cc
+place_by named place (unfit.Fault f) is names = names.0
+
+pub no_place_by : (named place : ℕ) (why : Unfit) → unfit_status why ≢ status.Settings → Names named place (unfit_place why) → named ≡ 0
+no_place_by named place unfit.Memory is names = names
+no_place_by named place unfit.Form is names = names
+no_place_by named place unfit.Number is names = names
+no_place_by named place (unfit.Fault f) is names = absurd (is refl)
+
+pub never_done : (why : Unfit) → unfit_status why ≢ status.Done
+never_done unfit.Memory is = absurd cc
+never_done unfit.Form is = absurd cc
+never_done unfit.Number is = absurd cc
+never_done (unfit.Fault f) is = absurd cc
