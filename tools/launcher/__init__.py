@@ -5,7 +5,8 @@
     children    programs that are started, and that end when this one does
     progress    the line that says what is under way, and how long it takes
     building    a program by `rt try`, unproved, and what was built kept
-    dist        the proved programs and the archive in `dist/`, with a manifest
+    page        the module of the page that plays scenarios, for a browser
+    dist        the proved programs, the archive and the page in `dist/`, with a manifest
     programs    which program is run: a proved one that fits the sources, a kept one, or one that is built now
     rows        the quick test: the rows of every driver, unproved
     worlds      a scenario's run, in words and as a page

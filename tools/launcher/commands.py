@@ -7,7 +7,7 @@ import sys
 from collections import defaultdict
 from pathlib import Path
 
-from . import TOP, dist, rows, sources, worlds
+from . import TOP, dist, page, rows, sources, worlds
 from .children import Ended, child, end_on_signals, hand_over, say, status_of
 from .programs import program
 from .progress import APART, Progress
@@ -60,6 +60,7 @@ def parser() -> Parser:
     of["test"].add_argument("--jobs", type=int, help="how many builds at once (as many as processors and memory allow)")
     of["prove"].add_argument("names", nargs="*", metavar="NAME", help="crates (all)")
     of["build"].add_argument("--proved", action="store_true", help="prove first: hours, unless rt has kept the proofs")
+    of["build"].add_argument("--page", action="store_true", help="the page of docs/play.html alone, its library proved over what rt kept")
     of["build"].add_argument("--as-is", action="store_true", help="with --proved: take what lies in crates/*/out, and don't ask rt")
     return found
 
@@ -166,6 +167,10 @@ def prove(given: argparse.Namespace) -> int:
 
 
 def build(given: argparse.Namespace) -> int:
+    if given.page:
+        place = page.build(dist.PAGE)
+        print(f"{place.relative_to(TOP)}/play.html: to be opened in a browser")
+        return 0
     folder = dist.build_proved(given.as_is) if given.proved else dist.build_unproved()
     manifest = dist.read(folder)
     print(f"{folder.relative_to(TOP)}: {'PROVED' if manifest['proved'] else 'UNPROVED'}, commit {manifest['commit']}, {manifest['kit']}")

@@ -2,6 +2,7 @@
 
     dist/x86_64-linux/      as the proofs' build made them; git has these
     dist/unproved/          as `rt try` made them; git has none of it
+    dist/page/              docs/play.html with the module of its nodes; git has none of it, but the module beside the page in docs/
 
 A manifest has the sums of the files, the kit, the commit, and for each file the checksums of the sources that it was made from, and
 whether rt had noted beside it that it came of a proved build. So whoever runs one knows whether it fits the tree.
@@ -13,13 +14,13 @@ import shutil
 import subprocess
 from pathlib import Path
 
-from . import TOP, sources
+from . import TOP, page, sources
 from .building import CRATES, TRIALS, built
 from .children import child, say
 from .progress import Progress
 from .trouble import Trouble
 
-PROVED, UNPROVED = TOP / "dist/x86_64-linux", TOP / "dist/unproved"
+PROVED, UNPROVED, PAGE = TOP / "dist/x86_64-linux", TOP / "dist/unproved", TOP / "dist/page"
 MANIFEST = "manifest.json"
 PROGRAMS = tuple(TRIALS)
 ARCHIVE, ARCHIVE_CRATE = "libsimplex_c.a", "simplex_c"
@@ -92,6 +93,11 @@ def build_proved(as_is: bool) -> Path:
         made[name] = (left(name, name, ["rt", "run", "--", *arguments(name)], as_is), name)
     made[ARCHIVE] = (left(ARCHIVE_CRATE, ARCHIVE, ["rt", "lib"], as_is), ARCHIVE_CRATE)
     lay(PROVED, made, proved=True)
+    if as_is or not page.can_build():
+        say("the page's module is left out: ./voumlis build --page makes it")
+        return PROVED
+    prove(page.CRATE, ["rt", "lib"])
+    page.build(PAGE)
     return PROVED
 
 
@@ -144,7 +150,7 @@ def prove(crate: str, words: list[str]) -> None:
                 started.wait(1)
             except subprocess.TimeoutExpired:
                 continue
-    failed = started.returncode if crate == ARCHIVE_CRATE else not stamp.exists()
+    failed = started.returncode if crate in (ARCHIVE_CRATE, page.CRATE) else not stamp.exists()
     progress.end("not proved" if failed else "proved", keep=not failed)
     if failed:
         raise Trouble(f"{' '.join(words[:2])} in crates/{crate} proved nothing: run it there to see why")

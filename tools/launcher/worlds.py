@@ -13,6 +13,8 @@ from .progress import Progress
 from .trouble import Trouble
 
 SCENARIOS, PAGE, RUNS = CRATES / "simplex_world/scenarios", TOP / "docs/world.html", MADE / "worlds"
+# What draws, a file of its own beside the page, and where the page reads it.
+DRAWING, READS = TOP / "docs/drawing.js", '<script src="drawing.js"></script>\n'
 # The runs that stand in the page, and the most bytes of lines that a browser is given.
 OPENS, CLOSES, MOST = '<script type="text/plain" id="run">\n', "</script>", 64 << 20
 
@@ -49,12 +51,13 @@ def play(program: Path, given: Path, name: str) -> tuple[Path, int]:
 
 
 def drawn(lines: Path) -> Path | None:
-    """A page with the run in it, or none where that would be more than a browser takes."""
+    """A page with the run and what draws it in it, or none where that would be more than a browser takes."""
     if lines.stat().st_size > MOST:
         return None
     before, _, behind = PAGE.read_text().partition(OPENS)
     place = lines.with_suffix(".html")
-    place.write_text(before + OPENS + lines.read_text() + CLOSES + behind.partition(CLOSES)[2])
+    behind = behind.partition(CLOSES)[2].replace(READS, f"<script>\n{DRAWING.read_text()}</script>\n")
+    place.write_text(before + OPENS + lines.read_text() + CLOSES + behind)
     return place
 
 

@@ -21,11 +21,6 @@
 //! writing failed; else 0.
 #![tactic(auto)]
 
-mod keeper;
-mod medium;
-mod turns;
-
-use crate::keeper::Keeper;
 use simplex_types::PlainScheme;
 use std::io::Write;
 use std::process::ExitCode;
@@ -33,6 +28,7 @@ use std::{env, io};
 use types_terms::RoundRobinElector;
 use world_network::TornDisk;
 use world_playing::play;
+use world_seats::Keeper;
 
 /// A member of these worlds.
 type Seated = Keeper<PlainScheme, RoundRobinElector, TornDisk>;

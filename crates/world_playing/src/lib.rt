@@ -11,6 +11,7 @@ mod hearing;
 mod playing;
 mod reporting;
 mod reports;
+mod stage;
 mod sums;
 mod world;
 
@@ -18,4 +19,5 @@ pub use chronicle::Chronicle;
 pub use findings::Findings;
 pub use playing::play;
 pub use reports::Reports;
+pub use stage::Stage;
 pub use sums::{Standing, Sums};

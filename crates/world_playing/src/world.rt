@@ -74,14 +74,32 @@ impl<S: Committee, M: Seat<S>> World<S, M> {
 
     /// Runs to the end, and gives the status to end with.
     pub(crate) fn run<W: Write>(&mut self, output: &mut W) -> Result<u8, Broken> {
-        self.chronicle.tell_begin(&self.scenario)?;
-        self.open_all()?;
+        self.start()?;
         for _ in 0..MOST_EVENTS {
-            if self.is_done() || !self.go_on()? {
+            if !self.goes_on()? {
                 break;
             }
             self.chronicle.write_much(output)?;
         }
+        self.finish(output)
+    }
+
+    /// Comes to its first moment: each member is opened.
+    pub(crate) fn start(&mut self) -> Result<(), Broken> {
+        self.chronicle.tell_begin(&self.scenario)?;
+        self.open_all()
+    }
+
+    /// Does what comes next. Whether the run goes on.
+    pub(crate) fn goes_on(&mut self) -> Result<bool, Broken> {
+        if self.is_done() {
+            return Ok(false);
+        }
+        self.go_on()
+    }
+
+    /// Ends here: the table, the audit, and the status.
+    pub(crate) fn finish<W: Write>(&mut self, output: &mut W) -> Result<u8, Broken> {
         let status = self.end()?;
         self.chronicle.write_all(output)?;
         Ok(status)

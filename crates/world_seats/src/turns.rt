@@ -10,7 +10,7 @@ use world_members::rotation_of;
 use world_network::Times;
 
 /// What a scenario can have decide who leads.
-pub(crate) trait Turns<S: Scheme<Sha256Digest>>: Elector<S, Sha256Digest> {
+pub trait Turns<S: Scheme<Sha256Digest>>: Elector<S, Sha256Digest> {
     /// What decides among so many members that are set up so.
     fn among(alloc: Global, times: &Times, participants: u32) -> Result<Self, AllocError>
         requires { 0 < participants }

@@ -16,7 +16,7 @@ use world_network::{Broken, Fuse, Scenario, Times};
 
 /// A member's disk, and its node while that is open on it.
 #[derive(Drop)]
-pub(crate) struct Keeper<S: Committee, L: Turns<S>, K: Medium> {
+pub struct Keeper<S: Committee, L: Turns<S>, K: Medium> {
     alloc: Global,
     members: u32,
     index: u32,

@@ -5,7 +5,7 @@ use std::alloc::Global;
 use world_network::{Fuse, TornDisk};
 
 /// A disk that is cut off inside a call, and mended.
-pub(crate) trait Medium: Disk {
+pub trait Medium: Disk {
     /// An empty one under this fuse. Which part of a write stands rests on the seed.
     fn under(alloc: Global, fuse: Fuse, seed: u64) -> Self;
 

@@ -1,0 +1,436 @@
+"use strict";
+// The page that plays scenarios: its controls, its clock, and what it says.
+
+const at = (id) => document.getElementById(id), picture = drawing();
+/** How many milliseconds of the world pass in one of the page's; the last is as fast as it can. */
+const SPEEDS = [["1/20", 0.05], ["1/10", 0.1], ["1/4", 0.25], ["1/2", 0.5], ["1", 1], ["3", 3], ["10", 10], ["100", 100], ["all", Infinity]];
+/** Events that the worker is asked for at once, lines that wait here at most, and lines that one frame takes. */
+const BATCH = 4000, AHEAD = 30000, PER_FRAME = 1500;
+/** Of what a followed run shows, in milliseconds; what is told of; how often somebody who wants no motion is shown a new picture. */
+const SPAN = 1500, TOLD = 40, STILL = 500;
+const isStill = window.matchMedia("(prefers-reduced-motion: reduce)");
+
+const play = {
+  engine: null, run: null, queue: [], place: 0, isAsked: false, isDone: true, isPlaying: false, seeks: null, clock: 0, ended: null, led: [], last: null,
+  drawn: 0, before: 0, epoch: 0, worst: 0,
+};
+
+// ---- the module
+
+/** Begins with the module, or says why it can't. */
+function begin() {
+  if (typeof PAGE_MODULE === "undefined") return refuse("The module of the nodes isn't beside this page: ./voumlis build makes it.");
+  if (!has64BitMemory()) return refuse("This browser has no 64-bit WebAssembly memory. Chromium, Chrome and Edge have it from 133 on, Firefox from 134.");
+  at("built").textContent = `${PAGE_MODULE.proved ? "proved" : "UNPROVED"}, commit ${PAGE_MODULE.commit}, ${PAGE_MODULE.kit}`;
+  at("whose").textContent = PAGE_MODULE.proved ? "The nodes that run are the library's own, proved, and compiled for this page." : "The nodes that run are the library's own, but nothing of this build was proved.";
+  at("built").title = `sha256 ${PAGE_MODULE.sha256}, ${PAGE_MODULE.bytes} bytes`;
+  restart();
+  return true;
+}
+
+/** A worker with the module in its first state: it is the only one that takes memory back whole. */
+function restart() {
+  play.engine?.end();
+  play.engine = new Remote(ENGINE_SOURCE, moduleBytes(PAGE_MODULE), PAGE_MODULE.memory);
+}
+
+function refuse(why) {
+  at("wrong").textContent = why;
+  at("hint").textContent = why;
+  for (const id of ["open", "play", "step", "lie", "crash", "split", "finish", "stop", "file"]) at(id).disabled = true;
+  return false;
+}
+
+// ---- a run
+
+/** What the module is given: the page draws each event, so it wants all lines, as JSON. */
+function asked(text) {
+  const first = text.split(/^run$/m)[0];
+  return `${first.split("\n").filter((line) => !/^(lines|format) /.test(line)).join("\n")}\nlines all\nformat json`;
+}
+
+/** Opens the scenario in place of what is played. */
+async function open(isPlaying = true) {
+  const epoch = ++play.epoch;
+  at("wrong").textContent = "";
+  restart();
+  Object.assign(play, { run: null, queue: [], place: 0, isAsked: false, isDone: false, seeks: null, clock: 0, ended: null, led: [], last: null, worst: 0 });
+  picture.choose(null);
+  at("told").replaceChildren();
+  at("named").textContent = "";
+  const status = await play.engine.ask("open", asked(at("text").value), true);
+  if (epoch !== play.epoch) return;
+  if (status !== STATUS.DONE) return broken(status);
+  setPlaying(isPlaying);
+  await more();
+}
+
+function broken(status) {
+  play.isDone = true;
+  setPlaying(false);
+  at("wrong").textContent = status === STATUS.MEMORY ? "Memory ran out: the run can't go on." : `The module answers ${status?.status ?? status}.`;
+}
+
+/** Asks for the lines to come, where few wait. */
+async function more() {
+  if (play.isAsked || play.isDone || play.queue.length - play.place > AHEAD) return;
+  const epoch = play.epoch;
+  play.isAsked = true;
+  const answer = await play.engine.ask("goOn", BATCH);
+  if (epoch !== play.epoch) return;
+  play.isAsked = false;
+  taken(answer);
+}
+
+/** Takes lines up. */
+function taken({ status, text, ended }) {
+  if (play.place > 0) { play.queue.splice(0, play.place); play.place = 0; }
+  for (const line of text.split("\n")) {
+    const event = readLine(line);
+    if (!event) continue;
+    if (event.event === "refused") {
+      at("wrong").textContent = `line ${event.line} of the text is refused: ${event.why}`;
+      play.isDone = true;
+    }
+    if (!play.run && isWorld(event)) {
+      play.run = begun(event);
+      picture.choose(play.run);
+      if (!at("followed").checked) picture.look(0, SPAN);
+    }
+    play.queue.push(event);
+  }
+  if (status !== STATUS.DONE) return broken(status);
+  if (ended !== null && ended !== undefined) { play.isDone = true; play.ended = ended; }
+  if (!play.isDone) more();
+}
+
+/** Takes the next line of the queue in. What it was, where it is an event. */
+function next() {
+  const event = play.queue[play.place++];
+  if (!play.run || !grow(play.run, event)) return null;
+  play.clock = Math.max(play.clock, event.at);
+  play.last = { event, led: play.led[event.member] };
+  const name = event.kind === undefined ? event.event : `${event.event} ${event.kind}`;
+  if (Object.hasOwn(LED, name)) play.led[event.member] = name;
+  recent.push(play.last);
+  if (recent.length > TOLD) recent.shift();
+  return event;
+}
+const recent = [];
+
+const isOver = () => play.isDone && play.place >= play.queue.length;
+
+/** A frame: as many events as the clock has come to, and the picture of them. */
+function frame(now) {
+  const begun = performance.now(), gone = Math.min(now - play.before, 100);
+  play.before = now;
+  if (play.run && (play.isPlaying || play.seeks)) {
+    advance(gone);
+    more();
+    if (!isStill.matches || now - play.drawn > STILL || isOver()) {
+      play.drawn = now;
+      show();
+    }
+    play.frames = (play.frames ?? 0) + 1;
+    play.worst = Math.max(play.worst, performance.now() - begun);
+  }
+  requestAnimationFrame(frame);
+}
+
+function advance(gone) {
+  const speed = play.seeks ? Infinity : SPEEDS[at("speed").value][1], until = speed === Infinity ? Infinity : play.clock + gone * speed;
+  for (let count = 0; count < PER_FRAME && play.place < play.queue.length; count++) {
+    if (play.queue[play.place].at > until) break;
+    const event = next();
+    if (event && play.seeks?.(event)) return stopSeeking();
+  }
+  if (play.place < play.queue.length && until !== Infinity) play.clock = Math.min(until, play.queue[play.place].at ?? until);
+  if (isOver()) stopSeeking();
+}
+
+function stopSeeking() {
+  play.seeks = null;
+  setPlaying(false);
+  show();
+}
+
+/** Looks for the next event of a kind. */
+function seek(seeks) {
+  if (!play.run) return;
+  play.seeks = seeks;
+}
+
+const IS = {
+  lie: ({ event }) => event === "lied", crash: ({ event }) => event === "crashed", split: ({ event }) => event === "contradicts", finish: () => false,
+};
+
+async function step() {
+  setPlaying(false);
+  if (!play.run) await open(false);
+  while (play.place < play.queue.length && !next());
+  if (play.place >= play.queue.length) more();
+  show();
+}
+
+/** Ends the run where the worker has come to, which may be ahead of the picture, and goes there. */
+async function stop() {
+  if (!play.run) return;
+  if (play.isDone) return seek(IS.finish);
+  const epoch = play.epoch;
+  const answer = await play.engine.ask("stop");
+  if (epoch !== play.epoch) return;
+  play.isDone = true;
+  taken(answer);
+  seek(IS.finish);
+}
+
+function setPlaying(isPlaying) {
+  play.isPlaying = isPlaying;
+  at("play").textContent = isPlaying ? "Pause" : "Play";
+}
+
+// ---- what is shown
+
+function show() {
+  if (!play.run) return;
+  const isFollowed = at("followed").checked && !isOver();
+  if (isOver() && play.shownEnd !== play.epoch) {
+    play.shownEnd = play.epoch;
+    if (at("followed").checked) picture.choose(play.run);
+    picture.tell();
+  }
+  const [left, right] = picture.span();
+  picture.follow(play.clock, isFollowed ? followedSpan(right - left) : 0);
+  at("clock").textContent = `${(play.clock / 1000).toFixed(2)} s, ${play.run.events.length} events`;
+  say();
+  at("named").textContent = verdictTold(play.run);
+}
+
+/** A span that somebody chose is kept. */
+function followedSpan(span) {
+  play.span ??= SPAN;
+  if (play.isZoomed) play.span = span;
+  play.isZoomed = false;
+  return play.span;
+}
+
+/** The last event in words; while it plays fast, what came before it too, a line each. */
+function say() {
+  if (!play.last) return;
+  const [what, why] = told(play.last.event, play.run, play.last.led), bold = document.createElement("b");
+  if (at("said").firstChild?.textContent === what && at("said").dataset.at === String(play.last.event.at)) return;
+  bold.textContent = what;
+  at("said").dataset.at = play.last.event.at;
+  at("said").replaceChildren(bold, why);
+  at("told").replaceChildren(...recent.slice(0, -1).reverse().slice(0, 12).map(({ event, led }) => {
+    const line = document.createElement("li");
+    line.textContent = `${event.at} ms: ${told(event, play.run, led)[0]}`;
+    return line;
+  }));
+}
+
+// ---- the controls
+
+/** The form's values: what the text says, unless it says what no control has. */
+let values = plainScenario();
+
+function number(value, least, most, name, take) {
+  const input = document.createElement("input");
+  Object.assign(input, { type: "number", min: least, max: most, step: 1, value, title: `${name}: ${least} to ${most}` });
+  input.setAttribute("aria-label", name);
+  input.onchange = () => {
+    const given = Math.round(Number(input.value));
+    input.value = Number.isFinite(given) ? Math.min(Math.max(given, least), most) : value;
+    take(Number(input.value));
+    fromForm();
+  };
+  return input;
+}
+
+function fillForm() {
+  at("seed").value = values.seed;
+  const groups = new Map();
+  for (const [word, group, fields] of LINES) {
+    if (!groups.has(group)) {
+      const set = document.createElement("fieldset"), legend = document.createElement("legend");
+      legend.textContent = group;
+      set.append(legend);
+      groups.set(group, set);
+    }
+    fields.forEach(([name, , least, most], place) => {
+      const label = document.createElement("label");
+      label.className = "field";
+      const input = number(values.numbers[word][place], least, most, name, (given) => { values.numbers[word][place] = given; });
+      input.id = `${word}-${place}`;
+      label.append(name, input);
+      groups.get(group).append(label);
+    });
+  }
+  at("fields").replaceChildren(...groups.values());
+  rows("liars", values.liars, liarRow);
+  rows("crashes", values.crashes, crashRow);
+  rows("cuts", values.cuts, cutRow);
+}
+
+function rows(id, list, make) {
+  at(id).replaceChildren(...list.map((each, place) => {
+    const row = document.createElement("div"), remove = document.createElement("button");
+    remove.textContent = "remove";
+    remove.setAttribute("aria-label", `remove ${id} ${place + 1}`);
+    remove.onclick = () => { list.splice(place, 1); fromForm(); fillForm(); };
+    row.append(...make(each), remove);
+    return row;
+  }));
+}
+
+const last = () => values.numbers.members[0] - 1;
+
+function liarRow(liar) {
+  const boxes = Object.entries(WAYS).map(([way, does]) => {
+    const label = document.createElement("label"), box = document.createElement("input");
+    Object.assign(box, { type: "checkbox", checked: liar.ways.includes(way) });
+    box.onchange = () => { liar.ways = Object.keys(WAYS).filter((it) => (it === way ? box.checked : liar.ways.includes(it))); fromForm(); };
+    label.title = does;
+    label.append(box, way);
+    return label;
+  });
+  return ["member", number(liar.member, 0, last(), "who lies", (given) => { liar.member = given; }), ...boxes];
+}
+
+function crashRow(crash) {
+  const of = (place, name, least, most) => number(crash[place], least, most, name, (given) => { crash[place] = given; });
+  return ["member", of(0, "who crashes", 0, last()), "in view", of(1, "in which view", 1, 10000), "after calls", of(2, "after so many calls of its disk", 0, 10000), "down, ms", of(3, "for so long", 0, 1e6)];
+}
+
+function cutRow(cut) {
+  const of = (place, name) => number(cut[place], 0, 1e8, name, (given) => { cut[place] = given; }), side = document.createElement("input");
+  Object.assign(side, { type: "text", value: cut[2], pattern: "\\d+(,\\d+)*" });
+  side.setAttribute("aria-label", "members of the one side");
+  side.onchange = () => { if (/^\d+(,\d+)*$/.test(side.value)) cut[2] = side.value; else side.value = cut[2]; fromForm(); };
+  return ["from, ms", of(0, "from"), "until", of(1, "until"), "members", side];
+}
+
+/** The text is what runs: the form writes it. */
+function fromForm() {
+  at("text").value = textOf(values);
+  at("about").textContent = sentenceOf(values);
+}
+
+/** The form follows the text, where it can. */
+function fromText(text, about = "") {
+  at("text").value = text;
+  const found = scenarioOf(text);
+  if (found) { values = found; fillForm(); }
+  at("about").textContent = [about, found ? sentenceOf(found) : "Controls don't have all of these lines: the text counts."].filter(Boolean).join(" ");
+}
+
+function fillPresets() {
+  const presets = scenariosOf(PRESETS);
+  at("preset").replaceChildren(...presets.map(({ told: comment, text }, place) => new Option(/^scenario/.test(comment) ? `${place + 1}: ${sentenceOf(scenarioOf(text) ?? plainScenario())}` : `${place + 1}: ${comment}`, place)));
+  at("preset").onchange = () => {
+    const { told: comment, text } = presets[at("preset").value];
+    fromText(text.split("\n").filter((line) => !/^(lines|format) /.test(line)).join("\n"), /^scenario/.test(comment) ? "" : comment);
+    open();
+  };
+  return presets;
+}
+
+// ---- links
+
+async function link() {
+  location.hash = encodeURIComponent(at("text").value);
+  try {
+    await navigator.clipboard.writeText(location.href);
+    at("linked").textContent = "copied";
+  } catch {
+    at("linked").textContent = "it stands in the address bar";
+  }
+}
+
+function fromLink() {
+  if (location.hash.length < 2) return false;
+  try {
+    fromText(decodeURIComponent(location.hash.slice(1)), "From a link.");
+  } catch {
+    return false;
+  }
+  return true;
+}
+
+// ---- reports and records of somebody's own
+
+async function answer(file) {
+  const bytes = new Uint8Array(await file.arrayBuffer()), members = Math.min(Math.max(Math.round(at("count").value), 0) || 0, 65535);
+  const isRecord = at("is-record").checked, owner = Math.min(Math.max(Math.round(at("owner").value), 0) || 0, 65535);
+  at("answer").textContent = "…";
+  const asks = isRecord ? ["record", members, owner, bytes] : ["audit", members, bytes];
+  const helper = new Remote(ENGINE_SOURCE, moduleBytes(PAGE_MODULE), PAGE_MODULE.memory);
+  const { status, text } = await helper.ask(...asks);
+  helper.end();
+  const words = { [STATUS.MEMORY]: "memory ran out", [STATUS.ARGUMENT]: "a committee has one member or more" };
+  at("answer").textContent = status === STATUS.DONE ? text || "nobody is named: no two votes here contradict each other" : words[status] ?? `the module answers ${status}`;
+}
+
+// ---- the page
+
+function wire() {
+  at("speed").replaceChildren(...SPEEDS.map(([name], place) => new Option(name === "all" ? "as fast as it can" : `× ${name}`, place)));
+  at("speed").value = 3;
+  at("open").onclick = () => open();
+  at("another").onclick = () => { values.seed = Math.floor(Math.random() * 1e9); setSeed(values.seed); open(); };
+  at("seed").onchange = () => { values.seed = Math.min(Math.max(Math.round(Number(at("seed").value)) || 0, 0), 1e9); setSeed(values.seed); };
+  at("text").onchange = () => fromText(at("text").value);
+  at("add-liar").onclick = () => { values.liars.push({ member: last(), ways: ["two-votes"] }); fromForm(); fillForm(); };
+  at("add-crash").onclick = () => { values.crashes.push([0, 3, 5, 500]); fromForm(); fillForm(); };
+  at("add-cut").onclick = () => { values.cuts.push([0, 2000, "0"]); fromForm(); fillForm(); };
+  at("link").onclick = link;
+  at("play").onclick = toggle;
+  at("step").onclick = step;
+  at("stop").onclick = stop;
+  for (const name of ["lie", "crash", "split", "finish"]) at(name).onclick = () => seek(IS[name]);
+  at("file").onchange = (change) => change.target.files[0] && answer(change.target.files[0]);
+  at("lanes").addEventListener("wheel", () => { play.isZoomed = true; });
+  for (const id of ["in", "out"]) at(id).addEventListener("click", () => { play.isZoomed = true; });
+  picture.moved = () => { at("followed").checked = false; };
+  at("all").addEventListener("click", () => picture.moved());
+  document.body.ondragover = (drag) => drag.preventDefault();
+  document.body.ondrop = (drop) => { drop.preventDefault(); if (drop.dataTransfer.files[0]) answer(drop.dataTransfer.files[0]); };
+  window.onhashchange = () => { if (fromLink()) open(); };
+  document.addEventListener("keydown", press);
+}
+
+/** The seed's line in the text, whatever else stands there. */
+function setSeed(seed) {
+  const lines = at("text").value.split("\n"), place = lines.findIndex((line) => line.startsWith("seed "));
+  if (place < 0) lines.push(`seed ${seed}`); else lines[place] = `seed ${seed}`;
+  fromText(lines.join("\n"));
+}
+
+async function toggle() {
+  if (!play.run || isOver()) return open();
+  play.seeks = null;
+  setPlaying(!play.isPlaying);
+}
+
+function press(key) {
+  if (key.ctrlKey || key.metaKey || key.altKey || /^(INPUT|SELECT|TEXTAREA)$/.test(key.target.tagName)) return;
+  const [left, right] = picture.span(), by = (right - left) / 8, away = () => picture.moved();
+  const does = {
+    " ": () => key.target.tagName === "BUTTON" || toggle(), "ArrowRight": step, "l": () => seek(IS.lie), "c": () => seek(IS.crash), "x": () => seek(IS.split), "e": () => seek(IS.finish),
+    "+": () => { play.isZoomed = true; picture.zoom(0.6); }, "-": () => { play.isZoomed = true; picture.zoom(1 / 0.6); }, "0": () => at("all").click(),
+    "[": () => { away(); picture.look(left - by, right - by); }, "]": () => { away(); picture.look(left + by, right + by); },
+  }[key.key];
+  if (!does || (!play.run && key.key !== " " && key.key !== "ArrowRight")) return;
+  if (!(key.key === " " && key.target.tagName === "BUTTON")) key.preventDefault();
+  does();
+}
+
+wire();
+const presets = fillPresets();
+picture.choose(null);
+if (begin()) {
+  if (fromLink()) open(false); else { fromText(presets[0].text, presets[0].told); }
+  requestAnimationFrame(frame);
+} else {
+  fromText(presets[0].text, presets[0].told);
+}
