@@ -37,6 +37,7 @@ pub fn attestations(
 }
 
 /// Those of a vote.
+#[tactic(auto, using(crate::proofs::Marked::marked_is, crate::proofs::Marked::marked_not))]
 fn in_vote(alloc: Global, members: u32, bytes: &[u8]) -> Result<Vec<Mark>, CodecError>
     ensures marks { IfOk result (λ found. marked vote_marks (vote_at bytes.now) ≡ Ok found.items) }
     ensures refused { IfErr result (λ why. (why ≡ Memory) ⊎ (marked vote_marks (vote_at bytes.now) ≡ Err why)) }
@@ -49,6 +50,7 @@ fn in_vote(alloc: Global, members: u32, bytes: &[u8]) -> Result<Vec<Mark>, Codec
 }
 
 /// Those of a certificate.
+#[tactic(auto, using(crate::proofs::Marked::marked_is, crate::proofs::Marked::marked_not))]
 fn in_certificate(alloc: Global, members: u32, bytes: &[u8]) -> Result<Vec<Mark>, CodecError>
     ensures marks { IfOk result (λ found. marked certificate_marks (certificate_at members bytes.now) ≡ Ok found.items) }
     ensures refused { IfErr result (λ why. (why ≡ Memory) ⊎ (marked certificate_marks (certificate_at members bytes.now) ≡ Err why)) }
@@ -63,6 +65,7 @@ fn in_certificate(alloc: Global, members: u32, bytes: &[u8]) -> Result<Vec<Mark>
 }
 
 /// Those of an artifact of a record.
+#[tactic(auto, using(crate::proofs::Marked::marked_is, crate::proofs::Marked::marked_not))]
 fn in_artifact(alloc: Global, members: u32, bytes: &[u8]) -> Result<Vec<Mark>, CodecError>
     ensures marks { IfOk result (λ found. marked artifact_marks (plain_artifact_at members bytes.now) ≡ Ok found.items) }
     ensures refused { IfErr result (λ why. (why ≡ Memory) ⊎ (marked artifact_marks (plain_artifact_at members bytes.now) ≡ Err why)) }
@@ -75,6 +78,7 @@ fn in_artifact(alloc: Global, members: u32, bytes: &[u8]) -> Result<Vec<Mark>, C
 }
 
 /// Those of a report.
+#[tactic(auto, using(crate::proofs::Marked::marked_is, crate::proofs::Marked::marked_not))]
 fn in_report(alloc: Global, members: u32, bytes: &[u8]) -> Result<Vec<Mark>, CodecError>
     ensures marks { IfOk result (λ found. marked activity_marks (report_at members bytes.now) ≡ Ok found.items) }
     ensures refused { IfErr result (λ why. (why ≡ Memory) ⊎ (marked activity_marks (report_at members bytes.now) ≡ Err why)) }
