@@ -7,7 +7,7 @@ ghost use Rattle.cli_hosted.specs.Serving.{IsLookedAtBy, IsTornBy, asks};
 ghost use Rattle.cli_hosted.specs.declared.status.Status.TheVariants.{Argument, Device, Done, Foreign, Memory, NoRecord, Refused, Settings as Faulty, Torn, Version};
 ghost use Rattle.simplex_c.specs.Settings.{HasFault, HasForm, SaysGood, SaysNothing};
 
-use crate::settings::{SettingsNumbers, settings_of, unfit};
+use crate::settings::{SettingsNumbers, settings_of, tell_unfit};
 use cli_hosted::{Found, Handle, Status, opened_by};
 use std::alloc::Global;
 
@@ -33,7 +33,7 @@ fn checked(
             found.tell(0, None);
             Status::Done
         }
-        Err(why) => unfit(why, found),
+        Err(why) => tell_unfit(why, found),
     }
 }
 
@@ -62,7 +62,7 @@ fn opened(
 {
     match settings_of(alloc, numbers, base, seed) {
         Ok(settings) => opened_by(alloc, &settings, cuts, stored, node, found),
-        Err(why) => unfit(why, found),
+        Err(why) => tell_unfit(why, found),
     }
 }
 
