@@ -228,10 +228,19 @@ function drawing() {
 
   /** Looks at this span, kept within the run and above a millisecond or so. */
   function look(from, until) {
+    turn(from, until);
+    draw();
+  }
+
+  function turn(from, until) {
     const { least, most } = full(), span = Math.min(Math.max(until - from, 10), most - least);
     left = Math.min(Math.max(from, least), most - span);
     right = left + span;
-    draw();
+  }
+
+  /** The next picture is of the whole run. */
+  function widen() {
+    turn(full().least, full().most);
   }
 
   function zoom(by, moment = (left + right) / 2) {
@@ -609,6 +618,6 @@ function drawing() {
     if (by) { picture.moved(); look(left - by, right - by); }
   };
   /** `moved` is called when somebody looks elsewhere. */
-  const picture = { choose, tell, draw, look, zoom, follow, shortened, moved() {}, span: () => [left, right] };
+  const picture = { choose, tell, draw, look, widen, zoom, follow, shortened, moved() {}, span: () => [left, right] };
   return picture;
 }
