@@ -100,9 +100,9 @@ pub enum Plan {
     Forward(Round, Vec<u32>),
 }
 
-/// What a host is to do.
+/// What a host is to do. Bytes are a `B`: their owner's, or lent.
 #[derive(Clone, Debug, PartialEq, Eq)]
-pub enum Action {
+pub enum Action<B = Vec<u8>> {
     /// Send these bytes, to all others or to one member.
     Send {
         /// The member, or all others.
@@ -110,7 +110,7 @@ pub enum Action {
         /// What to send them on.
         channel: Channel,
         /// The bytes.
-        bytes: Vec<u8>,
+        bytes: B,
     },
     /// Take nothing more of this member.
     Block(u32),
@@ -144,7 +144,7 @@ pub enum Action {
     /// This proposal is final.
     Finalized(Proposal),
     /// A report, as bytes.
-    Report(Vec<u8>),
+    Report(B),
     /// Tell the time at this moment, in milliseconds, at the latest.
     Wake(u64),
 }
@@ -267,22 +267,26 @@ impl Event<'_> {
 }
 
 /// What is left to read.
+#[derive(Clone, Copy, Debug)]
 struct Reader<'a>(&'a [u8]);
 
-impl Reader<'_> {
-    fn bytes(&mut self, size: usize) -> Option<&[u8]> {
+impl<'a> Reader<'a> {
+    fn bytes(&mut self, size: usize) -> Option<&'a [u8]> {
         let (front, rest) = self.0.split_at_checked(size)?;
         self.0 = rest;
         Some(front)
     }
 
     fn byte(&mut self) -> Option<u8> {
-        Some(self.bytes(1)?[0])
+        let (front, rest) = self.0.split_first()?;
+        self.0 = rest;
+        Some(*front)
     }
 
     fn number(&mut self) -> Option<u64> {
         let mut number = 0;
-        for shift in (0..64).step_by(7) {
+        let mut shift = 0;
+        while shift < 64 {
             let byte = self.byte()?;
             if shift == 63 && byte > 1 {
                 return None;
@@ -291,6 +295,7 @@ impl Reader<'_> {
             if byte < 128 {
                 return Some(number);
             }
+            shift += 7;
         }
         None
     }
@@ -315,9 +320,9 @@ impl Reader<'_> {
         }
     }
 
-    fn some(&mut self) -> Option<Vec<u8>> {
+    fn some(&mut self) -> Option<&'a [u8]> {
         let size = self.number()?.try_into().ok()?;
-        Some(self.bytes(size)?.to_vec())
+        self.bytes(size)
     }
 
     fn payload(&mut self) -> Option<Payload> {
@@ -371,12 +376,12 @@ impl Reader<'_> {
         }
     }
 
-    fn report(&mut self) -> Option<Vec<u8>> {
+    fn report(&mut self) -> Option<&'a [u8]> {
         let size = decode(Kind::Report, LARGEST, self.0).ok()?;
-        Some(self.bytes(size)?.to_vec())
+        self.bytes(size)
     }
 
-    fn action(&mut self) -> Option<Action> {
+    fn action<B: From<&'a [u8]>>(&mut self) -> Option<Action<B>> {
         Some(match self.byte()? {
             0 => Action::Send {
                 to: if self.truth()? {
@@ -385,7 +390,7 @@ impl Reader<'_> {
                     None
                 },
                 channel: self.channel()?,
-                bytes: self.some()?,
+                bytes: self.some()?.into(),
             },
             1 => Action::Block(self.index()?),
             2 => Action::Build {
@@ -404,7 +409,7 @@ impl Reader<'_> {
                 plan: self.plan()?,
             },
             6 => Action::Finalized(self.proposal()?),
-            7 => Action::Report(self.report()?),
+            7 => Action::Report(self.report()?.into()),
             8 => Action::Wake(self.number()?),
             _ => return None,
         })
@@ -414,10 +419,47 @@ impl Reader<'_> {
 impl Reply {
     /// The reply at the front of these bytes, and what is behind it; or nothing, where no whole reply stands there.
     pub fn read(bytes: &[u8]) -> Option<(Reply, &[u8])> {
-        let mut reader = Reader(bytes);
-        let refused = reader.refused()?;
-        let count = reader.number()?;
+        let LentReply {
+            refused,
+            count,
+            mut reader,
+        } = LentReply::read(bytes)?;
         let actions = (0..count).map(|_| reader.action()).collect::<Option<_>>()?;
         Some((Reply { refused, actions }, reader.0))
+    }
+}
+
+/// A reply as it lies in its bytes: what to do, in this order, each read where it is asked for.
+#[derive(Clone, Debug)]
+pub struct LentReply<'a> {
+    /// Why the event was refused, if it was.
+    pub refused: Option<Refusal>,
+    count: u64,
+    reader: Reader<'a>,
+}
+
+impl<'a> LentReply<'a> {
+    /// The reply at the front of these bytes; or nothing, where none begins there.
+    pub fn read(bytes: &'a [u8]) -> Option<LentReply<'a>> {
+        let mut reader = Reader(bytes);
+        Some(LentReply {
+            refused: reader.refused()?,
+            count: reader.number()?,
+            reader,
+        })
+    }
+}
+
+/// Each action; or nothing, and then no more, where the bytes hold no whole one.
+impl<'a> Iterator for LentReply<'a> {
+    type Item = Option<Action<&'a [u8]>>;
+
+    fn next(&mut self) -> Option<Self::Item> {
+        self.count = self.count.checked_sub(1)?;
+        let action = self.reader.action();
+        if action.is_none() {
+            self.count = 0;
+        }
+        Some(action)
     }
 }
