@@ -29,7 +29,7 @@ fn checked(
     ensures answers { (result ≡ Done) ⊎ ((result ≡ Memory) ⊎ ((result ≡ Argument) ⊎ ((result ≡ Faulty) ⊎ (result ≡ Version)))) }
 {
     match settings_of(alloc, numbers, base, seed) {
-        Ok(_) => {
+        Ok(_settings) => {
             found.tell(0, None);
             Status::Done
         }
