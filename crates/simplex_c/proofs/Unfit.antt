@@ -154,3 +154,10 @@ unnamed_but_form told named bound known (inl it) = known (inl it)
 unnamed_but_form told named bound known (inr (inl it)) = known (inr (inl it))
 unnamed_but_form told named bound known (inr (inr (inl it))) = known (inr (inr it))
 unnamed_but_form told named bound known (inr (inr (inr it))) = absurd (not_form told bound it)
+
+-- what is told is no number of a certificate
+pub told_within : (why : Unfit) (told : Status) → told ≡ unfit_status why → status_number told ≤ 14
+told_within unfit.Memory told is = subst (λ (t : Status). status_number t ≤ 14) (sym is) (omega (arith))
+told_within unfit.Form told is = subst (λ (t : Status). status_number t ≤ 14) (sym is) (omega (arith))
+told_within unfit.Number told is = subst (λ (t : Status). status_number t ≤ 14) (sym is) (omega (arith))
+told_within (unfit.Fault f) told is = subst (λ (t : Status). status_number t ≤ 14) (sym is) (omega (arith))

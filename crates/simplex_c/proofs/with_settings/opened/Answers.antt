@@ -1,5 +1,5 @@
-use Rattle.std.proofs.Common.{◌∙◌, sym, refl}
-use Rattle.simplex_c.proofs.Unfit.{fault_by, form_by, named_but_fault, named_of, never_done, never_no_record, never_torn, not_fault, not_form, unnamed_but_form, unnamed_of}
+use Rattle.std.proofs.Common.{◌∙◌, arith, sym}
+use Rattle.simplex_c.proofs.Unfit.{fault_by, form_by, named_but_fault, named_of, never_done, never_no_record, never_torn, not_fault, not_form, told_within, unnamed_but_form, unnamed_of}
 use Rattle.simplex_c.proofs.with_settings.opened.Goals as goal
 
 -- an opening by these settings
@@ -46,3 +46,9 @@ returns-in-Err-clause-named c = named_of c.in-Err.why c.tell_unfit.result c.tell
 
 pub returns-in-Err-clause-unnamed : goal.returns-in-Err-clause-unnamed
 returns-in-Err-clause-unnamed c = unnamed_of c.in-Err.why c.tell_unfit.result c.tell_unfit.new.found.named c.tell_unfit.new.found.place c.tell_unfit.ensures.status c.tell_unfit.ensures.place
+
+pub returns-in-Ok-clause-bound : goal.returns-in-Ok-clause-bound
+returns-in-Ok-clause-bound c = omega (arith, c.opened_by.ensures.bound)
+
+pub returns-in-Err-clause-bound : goal.returns-in-Err-clause-bound
+returns-in-Err-clause-bound c = told_within c.in-Err.why c.tell_unfit.result c.tell_unfit.ensures.status
