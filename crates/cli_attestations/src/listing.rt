@@ -41,7 +41,7 @@ pub(crate) fn push_listed(
     start: u64,
     listed: &[Attestation<PlainSignature>],
 ) -> Result<(), AllocError>
-    requires { start + 37 * length listed.now < 2 ^ 64 }
+    requires { start + 37 * length listed.now < 2 ^ 63 }
     ensures { OnOk result (marks.new.items ≡ marks.old.items ++ marks_from start listed.now) }
 {
     let mut buffer = Vec::new(alloc);

@@ -37,7 +37,6 @@ pub fn attestations(
 }
 
 /// Those of a vote.
-#[tactic(auto, using(crate::proofs::Marked::marked_is, crate::proofs::Marked::marked_not))]
 fn in_vote(alloc: Global, members: u32, bytes: &[u8]) -> Result<Vec<Mark>, CodecError>
     ensures marks { IfOk result (λ found. marked vote_marks (vote_at bytes.now) ≡ Ok found.items) }
     ensures refused { IfErr result (λ why. (why ≡ Memory) ⊎ (marked vote_marks (vote_at bytes.now) ≡ Err why)) }
@@ -50,7 +49,6 @@ fn in_vote(alloc: Global, members: u32, bytes: &[u8]) -> Result<Vec<Mark>, Codec
 }
 
 /// Those of a certificate.
-#[tactic(auto, using(crate::proofs::Marked::marked_is, crate::proofs::Marked::marked_not))]
 fn in_certificate(alloc: Global, members: u32, bytes: &[u8]) -> Result<Vec<Mark>, CodecError>
     ensures marks { IfOk result (λ found. marked certificate_marks (certificate_at members bytes.now) ≡ Ok found.items) }
     ensures refused { IfErr result (λ why. (why ≡ Memory) ⊎ (marked certificate_marks (certificate_at members bytes.now) ≡ Err why)) }
@@ -65,7 +63,6 @@ fn in_certificate(alloc: Global, members: u32, bytes: &[u8]) -> Result<Vec<Mark>
 }
 
 /// Those of an artifact of a record.
-#[tactic(auto, using(crate::proofs::Marked::marked_is, crate::proofs::Marked::marked_not))]
 fn in_artifact(alloc: Global, members: u32, bytes: &[u8]) -> Result<Vec<Mark>, CodecError>
     ensures marks { IfOk result (λ found. marked artifact_marks (plain_artifact_at members bytes.now) ≡ Ok found.items) }
     ensures refused { IfErr result (λ why. (why ≡ Memory) ⊎ (marked artifact_marks (plain_artifact_at members bytes.now) ≡ Err why)) }
@@ -78,7 +75,6 @@ fn in_artifact(alloc: Global, members: u32, bytes: &[u8]) -> Result<Vec<Mark>, C
 }
 
 /// Those of a report.
-#[tactic(auto, using(crate::proofs::Marked::marked_is, crate::proofs::Marked::marked_not))]
 fn in_report(alloc: Global, members: u32, bytes: &[u8]) -> Result<Vec<Mark>, CodecError>
     ensures marks { IfOk result (λ found. marked activity_marks (report_at members bytes.now) ≡ Ok found.items) }
     ensures refused { IfErr result (λ why. (why ≡ Memory) ⊎ (marked activity_marks (report_at members bytes.now) ≡ Err why)) }

@@ -1,4 +1,3 @@
 pub mod Places
 pub mod Values
 pub mod Looked
-pub mod Opens

@@ -13,7 +13,7 @@ ghost use Rattle.simplex_c.specs.Light.{BreaksOff, CertifiesNot, broken_number, 
 ghost use Rattle.simplex_c.specs.Settings.{HasFault, HasForm, SaysGood, SaysNothing};
 
 use crate::decoding::refused;
-use crate::settings::{SettingsNumbers, settings_of, tell_unfit};
+use crate::settings::{SettingsNumbers, settings_of, unfit};
 use cli_hosted::{Found, Status, put};
 use cli_light::{Broken, Certified, Uncertified, certifies, finalized_in};
 use cli_settings::Committee;
@@ -220,7 +220,7 @@ fn certified_with(
 {
     match settings_of(alloc, numbers, base, seed) {
         Ok(settings) => certified_by(alloc, &settings.committee, bytes, certified, found),
-        Err(why) => tell_unfit(why, found),
+        Err(why) => unfit(why, found),
     }
 }
 
@@ -255,7 +255,7 @@ fn finalized_with(
 {
     match settings_of(alloc, numbers, base, seed) {
         Ok(settings) => finalized_by(alloc, &settings.committee, bytes, room, found),
-        Err(why) => tell_unfit(why, found),
+        Err(why) => unfit(why, found),
     }
 }
 

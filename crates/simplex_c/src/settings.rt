@@ -237,7 +237,7 @@ fn checked(settings: Settings) -> Result<Settings, Unfit>
 }
 
 /// Tells why no node can be opened with what was handed in.
-pub(crate) fn tell_unfit(why: Unfit, found: &mut Found) -> Status
+pub(crate) fn unfit(why: Unfit, found: &mut Found) -> Status
     ensures status { result ≡ unfit_status why }
     ensures place { Names found.new.named found.new.place (unfit_place why) }
 {

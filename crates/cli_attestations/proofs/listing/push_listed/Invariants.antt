@@ -6,7 +6,7 @@ use Rattle.cli_attestations.proofs.listing.push_listed.Given as goal
 abbrev pub invariant-loop-attestation : goal.invariant-loop-attestation
 invariant-loop-attestation l = record {
   marked : l.marks.items ++ marks_from l.place l.rest ≡ l.fn.marks.items ++ marks_from l.start l.listed;
-  short : l.place + 37 * length l.rest < 2 ^ 64;
+  short : l.place + 37 * length l.rest < 2 ^ 63;
 }
 
 abbrev pub decreases-loop-attestation : goal.decreases-loop-attestation
