@@ -1,7 +1,6 @@
 #!/bin/sh
-# committee.sh [--quick] [--runs N] [--views N] [--instructions] [--place FOLDER]: measures a committee of four in one process, driven
-# from Rust by bindings/rust, beside the same loop in Rattle, with records in files of that folder (/dev/shm); --quick lets fewer views
-# go by, --instructions counts instructions in place of times, which needs valgrind.
+# committee.sh [--quick] [--runs N] [--views N] [--place FOLDER]: measures a committee of four in one process, driven from Rust by
+# bindings/rust, beside the same loop in Rattle, with records in files of that folder (/dev/shm); --quick lets fewer views go by.
 # COMMITTEE may name the program of committee/main.rt.txt, else it is proved and built here, which takes minutes to hours. The
 # static library has to stand where `rt lib` puts it (tools/test-bindings), or VOUMLIS_ARCHIVE names their folder.
 . "$(dirname "$0")/common.sh"

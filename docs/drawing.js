@@ -228,19 +228,10 @@ function drawing() {
 
   /** Looks at this span, kept within the run and above a millisecond or so. */
   function look(from, until) {
-    turn(from, until);
-    draw();
-  }
-
-  function turn(from, until) {
     const { least, most } = full(), span = Math.min(Math.max(until - from, 10), most - least);
     left = Math.min(Math.max(from, least), most - span);
     right = left + span;
-  }
-
-  /** The next picture is of the whole run. */
-  function widen() {
-    turn(full().least, full().most);
+    draw();
   }
 
   function zoom(by, moment = (left + right) / 2) {
@@ -618,6 +609,6 @@ function drawing() {
     if (by) { picture.moved(); look(left - by, right - by); }
   };
   /** `moved` is called when somebody looks elsewhere. */
-  const picture = { choose, tell, draw, look, widen, zoom, follow, shortened, moved() {}, span: () => [left, right] };
+  const picture = { choose, tell, draw, look, zoom, follow, shortened, moved() {}, span: () => [left, right] };
   return picture;
 }

@@ -11,7 +11,7 @@ const SPAN = 1500, TOLD = 40, STILL = 500;
 const isStill = window.matchMedia("(prefers-reduced-motion: reduce)");
 
 const play = {
-  engine: null, bytes: null, run: null, queue: [], place: 0, isAsked: false, isDone: true, isPlaying: false, seeks: null, clock: 0, ended: null, led: [], last: null,
+  engine: null, run: null, queue: [], place: 0, isAsked: false, isDone: true, isPlaying: false, seeks: null, clock: 0, ended: null, led: [], last: null,
   drawn: 0, before: 0, epoch: 0, worst: 0,
 };
 
@@ -31,12 +31,7 @@ function begin() {
 /** A worker with the module in its first state: it is the only one that takes memory back whole. */
 function restart() {
   play.engine?.end();
-  play.engine = worker();
-}
-
-function worker() {
-  play.bytes ??= moduleBytes(PAGE_MODULE);
-  return new Remote(ENGINE_SOURCE, play.bytes, PAGE_MODULE.memory);
+  play.engine = new Remote(ENGINE_SOURCE, moduleBytes(PAGE_MODULE), PAGE_MODULE.memory);
 }
 
 function refuse(why) {
@@ -153,11 +148,10 @@ function advance(gone) {
   if (isOver()) stopSeeking();
 }
 
-/** Stops there; the frame shows it, also where somebody wants no motion. */
 function stopSeeking() {
   play.seeks = null;
   setPlaying(false);
-  play.drawn = -Infinity;
+  show();
 }
 
 /** Looks for the next event of a kind. */
@@ -202,8 +196,8 @@ function show() {
   const isFollowed = at("followed").checked && !isOver();
   if (isOver() && play.shownEnd !== play.epoch) {
     play.shownEnd = play.epoch;
+    if (at("followed").checked) picture.choose(play.run);
     picture.tell();
-    if (at("followed").checked) picture.widen();
   }
   const [left, right] = picture.span();
   picture.follow(play.clock, isFollowed ? followedSpan(right - left) : 0);
@@ -370,7 +364,7 @@ async function answer(file) {
   const isRecord = at("is-record").checked, owner = Math.min(Math.max(Math.round(at("owner").value), 0) || 0, 65535);
   at("answer").textContent = "…";
   const asks = isRecord ? ["record", members, owner, bytes] : ["audit", members, bytes];
-  const helper = worker();
+  const helper = new Remote(ENGINE_SOURCE, moduleBytes(PAGE_MODULE), PAGE_MODULE.memory);
   const { status, text } = await helper.ask(...asks);
   helper.end();
   const words = { [STATUS.MEMORY]: "memory ran out", [STATUS.ARGUMENT]: "a committee has one member or more" };

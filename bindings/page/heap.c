@@ -1,6 +1,5 @@
 /* What the page's module has in place of a C library: the heap behind std's `Global`, and a product of 128 bits, which clang asks for.
-   A block has its size before it, and what is given back waits in the list of its size; where no memory is left a larger block serves.
-   Nothing here is proved. */
+   A block has its size before it, and what is given back waits in the list of its size. Nothing here is proved. */
 typedef unsigned long size;
 typedef unsigned char byte;
 
@@ -53,27 +52,21 @@ static byte *taken(size bytes) {
   return found;
 }
 
-/* A block that waits in this list, or none. */
-static Block *waiting(size list) {
-  Block *block = lists[list];
-  if (block)
-    lists[list] = block->next;
-  return block;
-}
-
 Tried rattle_alloc(size wanted, size align) {
   Tried none = {0, &nothing}, done = {1, 0};
   (void)align; /* divides 16 */
   if (wanted > 1ul << 40)
     return none;
   size room, list = list_of(wanted, &room);
-  Block *block = waiting(list);
-  if (!block && (block = (Block *)taken(HEAD + room)))
+  Block *block = lists[list];
+  if (block) {
+    lists[list] = block->next;
+  } else {
+    block = (Block *)taken(HEAD + room);
+    if (!block)
+      return none;
     block->room = room;
-  while (!block && ++list < LISTS)
-    block = waiting(list);
-  if (!block)
-    return none;
+  }
   done.p = (byte *)block + HEAD;
   return done;
 }

@@ -115,15 +115,10 @@ def written(module: Path, proved: bool) -> str:
     """The module as a script, since a page that is opened from the disk may read scripts alone."""
     data = module.read_bytes()
     told = {
-        "proved": proved, "commit": sources.commit(), "kit": sources.kit(), "code": sources.code(CRATE), "heap": heap(), "sha256": hashlib.sha256(data).hexdigest(),
+        "proved": proved, "commit": sources.commit(), "kit": sources.kit(), "code": sources.code(CRATE), "sha256": hashlib.sha256(data).hexdigest(),
         "bytes": len(data), "memory": STACK + (4 << 20), "base64": base64.b64encode(data).decode(),
     }
     return f'"use strict";\n// crates/world_page, compiled: ./voumlis build writes this file, and tools/check-page looks whether it fits.\nconst PAGE_MODULE = {json.dumps(told, indent=1)};\n'
-
-
-def heap() -> str:
-    """The sum of the heap in C."""
-    return hashlib.sha256(HEAP.read_bytes()).hexdigest()
 
 
 def read(file: Path) -> dict:

@@ -4,20 +4,12 @@ use std::collections::VecDeque;
 use std::path::{Path, PathBuf};
 use std::{env, fs, io, time::Instant};
 use voumlis::Node;
-use voumlis::wire::{Action, Channel, Event};
+use voumlis::wire::{Action, Event, Reply};
 
 const MEMBERS: u16 = 4;
 
-/// An event on its way.
-enum Letter {
-    /// A packet of this member.
-    Packet(u16, Channel, Vec<u8>),
-    /// What the application answers, or the time.
-    Own(Event<'static>),
-}
-
-/// What is on its way, the oldest first, each with the member that it comes to.
-type Mail = VecDeque<(u16, Letter)>;
+/// Bytes of events on their way, each with the member that it comes to.
+type Mail = VecDeque<(u16, Vec<u8>)>;
 
 /// One member: a node, its clock's zero and next ring, and what it was told is final.
 struct Member {
@@ -34,63 +26,78 @@ impl Member {
         let (node, reply) = Node::open(&record, self.index, MEMBERS)?;
         self.node = Some(node);
         self.zero = now;
-        for action in reply.actions {
-            self.act(action, mail);
-        }
+        self.carry_out(reply, mail);
         Ok(())
     }
 
-    fn take(&mut self, letter: &Letter, mail: &mut Mail) -> io::Result<()> {
-        let Some(mut node) = self.node.take() else {
+    fn take(&mut self, event: &[u8], mail: &mut Mail) -> io::Result<()> {
+        let Some(node) = &mut self.node else {
             return Ok(());
         };
-        let event = match letter {
-            Letter::Packet(sender, channel, bytes) => Event::Packet {
-                sender: u32::from(*sender),
-                channel: *channel,
-                bytes,
-            },
-            Letter::Own(event) => *event,
-        };
-        let reply = node.step_lent(&event)?;
+        let replies = node.step_bytes(event)?;
+        let (reply, _) = Reply::read(&replies).ok_or(io::ErrorKind::InvalidData)?;
+        self.carry_out(reply, mail);
+        Ok(())
+    }
+
+    fn carry_out(&mut self, reply: Reply, mail: &mut Mail) {
         if reply.refused.is_none() {
             self.wake = None;
         }
-        for action in reply {
-            self.act(action.ok_or(io::ErrorKind::InvalidData)?, mail);
-        }
-        self.node = Some(node);
-        Ok(())
-    }
-
-    fn act<B: AsRef<[u8]>>(&mut self, action: Action<B>, mail: &mut Mail) {
         let me = self.index;
-        match action {
-            Action::Send { to, channel, bytes } => (0..MEMBERS)
-                .filter(|other| *other != me && to.is_none_or(|one| one == u32::from(*other)))
-                .for_each(|other| {
-                    let packet = Letter::Packet(me, channel, bytes.as_ref().to_vec());
-                    mail.push_back((other, packet));
-                }),
-            Action::Build {
-                request, context, ..
-            } => {
-                let mut payload = [0; 32];
-                payload[..8].copy_from_slice(&context.round.view.to_be_bytes());
-                let payload = Some(payload);
-                mail.push_back((me, Letter::Own(Event::Built { request, payload })));
+        let mut post = |to: u16, event: Event| {
+            let mut bytes = Vec::new();
+            event.append(&mut bytes);
+            mail.push_back((to, bytes));
+        };
+        for action in reply.actions {
+            match action {
+                Action::Send { to, channel, bytes } => {
+                    let sender = u32::from(me);
+                    let packet = Event::Packet {
+                        sender,
+                        channel,
+                        bytes: &bytes,
+                    };
+                    (0..MEMBERS)
+                        .filter(|other| {
+                            *other != me && to.is_none_or(|one| one == u32::from(*other))
+                        })
+                        .for_each(|other| post(other, packet));
+                }
+                Action::Build {
+                    request, context, ..
+                } => {
+                    let mut payload = [0; 32];
+                    payload[..8].copy_from_slice(&context.round.view.to_be_bytes());
+                    post(
+                        me,
+                        Event::Built {
+                            request,
+                            payload: Some(payload),
+                        },
+                    );
+                }
+                Action::Verify { request, .. } => post(
+                    me,
+                    Event::Checked {
+                        request,
+                        answer: Some(true),
+                    },
+                ),
+                Action::Certify(proposal) => post(
+                    me,
+                    Event::Verdict {
+                        view: proposal.round.view,
+                        good: true,
+                    },
+                ),
+                Action::Finalized(proposal) => {
+                    self.finalized = self.finalized.max(proposal.round.view)
+                }
+                Action::Wake(moment) => self.wake = Some(self.zero + moment),
+                Action::Block(_) | Action::Forward { .. } | Action::Report(_) => {}
             }
-            Action::Verify { request, .. } => {
-                let answer = Some(true);
-                mail.push_back((me, Letter::Own(Event::Checked { request, answer })));
-            }
-            Action::Certify(proposal) => {
-                let (view, good) = (proposal.round.view, true);
-                mail.push_back((me, Letter::Own(Event::Verdict { view, good })));
-            }
-            Action::Finalized(proposal) => self.finalized = self.finalized.max(proposal.round.view),
-            Action::Wake(moment) => self.wake = Some(self.zero + moment),
-            Action::Block(_) | Action::Forward { .. } | Action::Report(_) => {}
         }
     }
 }
@@ -118,8 +125,8 @@ fn main() -> io::Result<()> {
     }
     let start = Instant::now();
     while members.iter().any(|member| member.finalized < views) {
-        if let Some((to, letter)) = mail.pop_front() {
-            members[usize::from(to)].take(&letter, &mut mail)?;
+        if let Some((to, event)) = mail.pop_front() {
+            members[usize::from(to)].take(&event, &mut mail)?;
         } else {
             // Nothing is on its way: the time passes until the first clock rings.
             let Some(next) = members
@@ -135,8 +142,9 @@ fn main() -> io::Result<()> {
                 .iter_mut()
                 .filter(|m| m.wake.is_some_and(|at| at <= now))
             {
-                let moment = Event::Moment(now - member.zero);
-                member.take(&Letter::Own(moment), &mut mail)?;
+                let mut moment = Vec::new();
+                Event::Moment(now - member.zero).append(&mut moment);
+                member.take(&moment, &mut mail)?;
             }
         }
         let best = members

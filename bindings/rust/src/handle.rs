@@ -48,10 +48,6 @@ unsafe extern "C" {
     fn voumlis_proved_node_close(node: *mut Handle) -> u32;
 }
 
-/// The least room that is made for an answer, and the most that is kept for the next. Its bytes are filled once, when it is made.
-const LEAST_ROOM: usize = 4096;
-pub(crate) const MOST_KEPT: usize = 65_536;
-
 /// A call that takes what waits.
 type Take = unsafe extern "C" fn(*mut Handle, *mut u8, usize, *mut Found) -> u32;
 
@@ -100,27 +96,29 @@ impl Handle {
         views
     }
 
-    /// What the host is asked to do with the record, in this room.
-    pub(crate) fn requests<'a>(&mut self, room: &'a mut Vec<u8>) -> &'a [u8] {
-        self.taken(voumlis_proved_node_requests, room)
+    /// What the host is asked to do with the record.
+    pub(crate) fn requests(&mut self) -> Vec<u8> {
+        self.taken(voumlis_proved_node_requests)
     }
 
-    /// The replies that were not taken yet, in this room.
-    pub(crate) fn replies<'a>(&mut self, room: &'a mut Vec<u8>) -> &'a [u8] {
-        self.taken(voumlis_proved_node_replies, room)
+    /// The replies that were not taken yet.
+    pub(crate) fn replies(&mut self) -> Vec<u8> {
+        self.taken(voumlis_proved_node_replies)
     }
 
-    fn taken<'a>(&mut self, take: Take, room: &'a mut Vec<u8>) -> &'a [u8] {
-        room.truncate(MOST_KEPT);
-        room.shrink_to(MOST_KEPT);
+    fn taken(&mut self, take: Take) -> Vec<u8> {
+        let mut room = vec![0; 4096];
         loop {
             let mut found = Found::default();
             // SAFETY: a slice with its length, lent to be written, and a handle that is as the library left it.
             let status = unsafe { take(self, room.as_mut_ptr(), room.len(), &mut found) };
             match status {
-                0 => return &room[..found.length],
-                3 => room.resize(found.length.max(LEAST_ROOM), 0),
-                _ => return &[],
+                0 => {
+                    room.truncate(found.length);
+                    return room;
+                }
+                3 => room = vec![0; found.length],
+                _ => return Vec::new(),
             }
         }
     }

@@ -1,8 +1,7 @@
 //! A member's node over a record in a file.
 
-use crate::handle::MOST_KEPT;
 use crate::settings::{Settings, SettingsError};
-use crate::wire::{Event, LentReply, Reply};
+use crate::wire::{Event, Reply};
 use crate::{Found, Handle};
 use std::fs::{File, TryLockError};
 use std::io::{Error, ErrorKind, Read};
@@ -53,15 +52,6 @@ pub struct Node {
     handle: Handle,
     file: File,
     ending: Option<Ending>,
-    room: Room,
-}
-
-/// Room for the bytes that pass between a node and its host, kept from call to call where it is small.
-#[derive(Debug, Default)]
-struct Room {
-    event: Vec<u8>,
-    requests: Vec<u8>,
-    replies: Vec<u8>,
 }
 
 /// How a call ended that didn't do what it was asked.
@@ -184,11 +174,12 @@ impl Node {
             handle: Handle::NONE,
             file,
             ending: None,
-            room: Room::default(),
         };
         let mut found = Found::default();
         let status = node.handle.open(settings, cuts, &stored, &mut found);
-        let reply = node.answered(status, &found).and_then(one);
+        let reply = node
+            .answered(status, &found)
+            .and_then(|replies| one(&replies));
         match reply {
             Ok(reply) => Ok((node, reply)),
             Err(_) if node.ending.is_some() => Err(Error::other(format!("{:?}", node.close()))),
@@ -207,17 +198,9 @@ impl Node {
     ///
     /// One behind which the node has ended: [`Node::close`] says why, and the record can be opened again.
     pub fn step(&mut self, event: &Event<'_>) -> Result<Reply, Error> {
-        self.step_spelled(event).and_then(one)
-    }
-
-    /// The same, but that the reply is lent until the next call, and each of its actions is read where it is asked for: nothing of it
-    /// is copied.
-    ///
-    /// # Errors
-    ///
-    /// As of [`Node::step`].
-    pub fn step_lent(&mut self, event: &Event<'_>) -> Result<LentReply<'_>, Error> {
-        LentReply::read(self.step_spelled(event)?).ok_or_else(|| ErrorKind::InvalidData.into())
+        let mut bytes = Vec::new();
+        event.append(&mut bytes);
+        one(&self.step_bytes(&bytes)?)
     }
 
     /// The same of the bytes of any number of events, one behind another, and of their replies.
@@ -226,30 +209,12 @@ impl Node {
     ///
     /// As of [`Node::step`]; also where the bytes aren't those of whole events.
     pub fn step_bytes(&mut self, events: &[u8]) -> Result<Vec<u8>, Error> {
-        self.going_on()?;
+        if self.ending.is_some() {
+            return Err(ErrorKind::BrokenPipe.into());
+        }
         let mut found = Found::default();
         let status = self.handle.step(events, &mut found);
-        self.answered(status, &found).map(<[u8]>::to_vec)
-    }
-
-    /// The bytes of the reply to an event.
-    fn step_spelled(&mut self, event: &Event<'_>) -> Result<&[u8], Error> {
-        self.going_on()?;
-        let room = &mut self.room.event;
-        room.clear();
-        room.shrink_to(MOST_KEPT);
-        event.append(room);
-        let mut found = Found::default();
-        let status = self.handle.step(room, &mut found);
         self.answered(status, &found)
-    }
-
-    /// Fails where the node has ended.
-    fn going_on(&self) -> Result<(), Error> {
-        match self.ending {
-            Some(_) => Err(ErrorKind::BrokenPipe.into()),
-            None => Ok(()),
-        }
     }
 
     /// Lets the node go, and answers how it ended.
@@ -258,16 +223,16 @@ impl Node {
     }
 
     /// Carries out what a call asked, and then answers the replies.
-    fn answered(&mut self, status: u32, found: &Found) -> Result<&[u8], Error> {
+    fn answered(&mut self, status: u32, found: &Found) -> Result<Vec<u8>, Error> {
         if status != 0 {
             self.ending = Some(ending(status, found));
             return Err(ErrorKind::BrokenPipe.into());
         }
-        if let Err(error) = carry_out(&self.file, self.handle.requests(&mut self.room.requests)) {
+        if let Err(error) = carry_out(&self.file, &self.handle.requests()) {
             self.ending = Some(Ending::Device);
             return Err(error);
         }
-        Ok(self.handle.replies(&mut self.room.replies))
+        Ok(self.handle.replies())
     }
 }
 

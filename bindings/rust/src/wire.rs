@@ -100,9 +100,9 @@ pub enum Plan {
     Forward(Round, Vec<u32>),
 }
 
-/// What a host is to do. Bytes are a `B`: their owner's, or lent.
+/// What a host is to do.
 #[derive(Clone, Debug, PartialEq, Eq)]
-pub enum Action<B = Vec<u8>> {
+pub enum Action {
     /// Send these bytes, to all others or to one member.
     Send {
         /// The member, or all others.
@@ -110,7 +110,7 @@ pub enum Action<B = Vec<u8>> {
         /// What to send them on.
         channel: Channel,
         /// The bytes.
-        bytes: B,
+        bytes: Vec<u8>,
     },
     /// Take nothing more of this member.
     Block(u32),
@@ -144,7 +144,7 @@ pub enum Action<B = Vec<u8>> {
     /// This proposal is final.
     Finalized(Proposal),
     /// A report, as bytes.
-    Report(B),
+    Report(Vec<u8>),
     /// Tell the time at this moment, in milliseconds, at the latest.
     Wake(u64),
 }
@@ -267,26 +267,22 @@ impl Event<'_> {
 }
 
 /// What is left to read.
-#[derive(Clone, Copy, Debug)]
 struct Reader<'a>(&'a [u8]);
 
-impl<'a> Reader<'a> {
-    fn bytes(&mut self, size: usize) -> Option<&'a [u8]> {
+impl Reader<'_> {
+    fn bytes(&mut self, size: usize) -> Option<&[u8]> {
         let (front, rest) = self.0.split_at_checked(size)?;
         self.0 = rest;
         Some(front)
     }
 
     fn byte(&mut self) -> Option<u8> {
-        let (front, rest) = self.0.split_first()?;
-        self.0 = rest;
-        Some(*front)
+        Some(self.bytes(1)?[0])
     }
 
     fn number(&mut self) -> Option<u64> {
         let mut number = 0;
-        let mut shift = 0;
-        while shift < 64 {
+        for shift in (0..64).step_by(7) {
             let byte = self.byte()?;
             if shift == 63 && byte > 1 {
                 return None;
@@ -295,7 +291,6 @@ impl<'a> Reader<'a> {
             if byte < 128 {
                 return Some(number);
             }
-            shift += 7;
         }
         None
     }
@@ -320,9 +315,9 @@ impl<'a> Reader<'a> {
         }
     }
 
-    fn some(&mut self) -> Option<&'a [u8]> {
+    fn some(&mut self) -> Option<Vec<u8>> {
         let size = self.number()?.try_into().ok()?;
-        self.bytes(size)
+        Some(self.bytes(size)?.to_vec())
     }
 
     fn payload(&mut self) -> Option<Payload> {
@@ -376,12 +371,12 @@ impl<'a> Reader<'a> {
         }
     }
 
-    fn report(&mut self) -> Option<&'a [u8]> {
+    fn report(&mut self) -> Option<Vec<u8>> {
         let size = decode(Kind::Report, LARGEST, self.0).ok()?;
-        self.bytes(size)
+        Some(self.bytes(size)?.to_vec())
     }
 
-    fn action<B: From<&'a [u8]>>(&mut self) -> Option<Action<B>> {
+    fn action(&mut self) -> Option<Action> {
         Some(match self.byte()? {
             0 => Action::Send {
                 to: if self.truth()? {
@@ -390,7 +385,7 @@ impl<'a> Reader<'a> {
                     None
                 },
                 channel: self.channel()?,
-                bytes: self.some()?.into(),
+                bytes: self.some()?,
             },
             1 => Action::Block(self.index()?),
             2 => Action::Build {
@@ -409,7 +404,7 @@ impl<'a> Reader<'a> {
                 plan: self.plan()?,
             },
             6 => Action::Finalized(self.proposal()?),
-            7 => Action::Report(self.report()?.into()),
+            7 => Action::Report(self.report()?),
             8 => Action::Wake(self.number()?),
             _ => return None,
         })
@@ -419,47 +414,10 @@ impl<'a> Reader<'a> {
 impl Reply {
     /// The reply at the front of these bytes, and what is behind it; or nothing, where no whole reply stands there.
     pub fn read(bytes: &[u8]) -> Option<(Reply, &[u8])> {
-        let LentReply {
-            refused,
-            count,
-            mut reader,
-        } = LentReply::read(bytes)?;
+        let mut reader = Reader(bytes);
+        let refused = reader.refused()?;
+        let count = reader.number()?;
         let actions = (0..count).map(|_| reader.action()).collect::<Option<_>>()?;
         Some((Reply { refused, actions }, reader.0))
-    }
-}
-
-/// A reply as it lies in its bytes: what to do, in this order, each read where it is asked for.
-#[derive(Clone, Debug)]
-pub struct LentReply<'a> {
-    /// Why the event was refused, if it was.
-    pub refused: Option<Refusal>,
-    count: u64,
-    reader: Reader<'a>,
-}
-
-impl<'a> LentReply<'a> {
-    /// The reply at the front of these bytes; or nothing, where none begins there.
-    pub fn read(bytes: &'a [u8]) -> Option<LentReply<'a>> {
-        let mut reader = Reader(bytes);
-        Some(LentReply {
-            refused: reader.refused()?,
-            count: reader.number()?,
-            reader,
-        })
-    }
-}
-
-/// Each action; or nothing, and then no more, where the bytes hold no whole one.
-impl<'a> Iterator for LentReply<'a> {
-    type Item = Option<Action<&'a [u8]>>;
-
-    fn next(&mut self) -> Option<Self::Item> {
-        self.count = self.count.checked_sub(1)?;
-        let action = self.reader.action();
-        if action.is_none() {
-            self.count = 0;
-        }
-        Some(action)
     }
 }

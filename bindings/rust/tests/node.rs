@@ -3,7 +3,7 @@
 use std::fs;
 use std::io::ErrorKind;
 use std::path::PathBuf;
-use voumlis::wire::{Action, Channel, Event, Refusal, Reply};
+use voumlis::wire::{Action, Event, Refusal, Reply};
 use voumlis::{Ending, Node, Record, first_refused};
 
 /// A path at which there is no file yet.
@@ -28,35 +28,6 @@ fn the_sample_of_the_readme_is_answered() {
     assert_eq!(
         node.step(&Event::Moment(299)).unwrap(),
         reply(Some(Refusal::MomentFell), vec![])
-    );
-    assert_eq!(node.close(), Ending::Closed);
-}
-
-#[test]
-fn a_lent_reply_says_the_same() {
-    let (mut node, _) = Node::open(&place("lent"), 0, 4).unwrap();
-    let mut lent = node.step_lent(&Event::Moment(300)).unwrap();
-    assert_eq!(lent.refused, None);
-    assert_eq!(lent.next(), Some(Some(Action::Wake(1000))));
-    assert_eq!(lent.next(), None);
-    let mut lent = node.step_lent(&Event::Moment(299)).unwrap();
-    assert_eq!(lent.refused, Some(Refusal::MomentFell));
-    assert_eq!(lent.next(), None);
-    // Room that a great event took isn't kept, and what was there before isn't told again.
-    let bytes = &[7; 1 << 20];
-    let (sender, channel) = (1, Channel::Votes);
-    let great = Event::Packet {
-        sender,
-        channel,
-        bytes,
-    };
-    let mut lent = node.step_lent(&great).unwrap();
-    assert_eq!(lent.refused, Some(Refusal::NotDecoded));
-    assert_eq!(lent.next(), Some(Some(Action::Block(1))));
-    assert_eq!(lent.next(), None);
-    assert_eq!(
-        node.step(&Event::Moment(300)).unwrap(),
-        reply(None, vec![Action::Wake(1000)])
     );
     assert_eq!(node.close(), Ending::Closed);
 }

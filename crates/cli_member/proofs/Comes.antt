@@ -23,18 +23,13 @@ committee_is v base count me b n m =
     (subst (λ (x : Option ℕ). v ≡ record { base = v.base; participants = v.participants; me = x }) m refl))
 
 -- no record was opened, or the node ran by the index that its scheme has
-pub comes_by : (own : Option ℕ) (member : ℕ) (ended : Result ⊤ Ending) (Untouched : Type 0) (Run : Result ⊤ IoFault → ℕ → Type 0) → own ≡ Some member
+pub comes_by : (own : Option ℕ) (member : ℕ) (ended : Result ⊤ Ending) (Untouched : Type 0) (c : Committee) (leaders : Rotation) (Run : Rotation → Result ⊤ IoFault → ℕ → Type 0)
+    → own ≡ Some member → AreLeaders c leaders
     → ((why : OpenFault) × (ended ≡ Err (ending.Open why)) × Untouched)
-    ⊎ ((io : Result ⊤ IoFault) × (index : ℕ) × (ended ≡ ended_of io) × (own ≡ Some index) × Run io index)
+    ⊎ ((io : Result ⊤ IoFault) × (index : ℕ) × (ended ≡ ended_of io) × (own ≡ Some index) × Run leaders io index)
     → (((ended ≡ Err ending.Memory) ⊎ ((why : OpenFault) × (ended ≡ Err (ending.Open why)))) × Untouched)
-    ⊎ ((io : Result ⊤ IoFault) × (ended ≡ ended_of io) × Run io member)
-comes_by own member ended Untouched Run mine (inl (why, is, same)) = inl (inr (why, is), same)
-comes_by own member ended Untouched Run mine (inr (io, index, is, owns, run)) =
+    ⊎ ((led : Rotation) × AreLeaders c led × ((io : Result ⊤ IoFault) × (ended ≡ ended_of io) × Run led io member))
+comes_by own member ended Untouched c leaders Run mine led (inl (why, is, same)) = inl (inr (why, is), same)
+comes_by own member ended Untouched c leaders Run mine led (inr (io, index, is, owns, run)) =
     let same : index ≡ member = some-is index member (sym owns ∙ mine) in
-    inr (io, is, subst (λ (n : ℕ). Run io n) same run)
-
--- and its members go by these leaders
-pub led_by : (c : Committee) (leaders : Rotation) (Not : Type 0) (Runs : Rotation → Type 0) → AreLeaders c leaders → Not ⊎ Runs leaders
-    → Not ⊎ ((led : Rotation) × AreLeaders c led × Runs led)
-led_by c leaders Not Runs led (inl not) = inl not
-led_by c leaders Not Runs led (inr runs) = inr (leaders, led, runs)
+    inr (leaders, led, io, is, subst (λ (n : ℕ). Run leaders io n) same run)

@@ -1,6 +1,6 @@
 -- The status of a program that a member's node ended.
-use Rattle.std.proofs.Common.{◌≡◌, ◌⊎◌, inl, inr, ℕ, List, Option, Ok, Err, ap}
-use Rattle.std.specs.Prelude.{Result, IfErr, IfOk, OnOk}
+use Rattle.std.proofs.Common.{◌≡◌, ◌⊎◌, inl, inr, ℕ, Ok, Err}
+use Rattle.std.specs.Prelude.{Result, IfErr, IfOk}
 use Rattle.simplex_cli.specs.declared.ending.Ending.{Ending}
 use Rattle.simplex_cli.specs.declared.ending.Ending.TheVariants as ending
 use Rattle.simplex_cli.specs.Ending.{ending_status}
@@ -21,8 +21,3 @@ module _ {A : Type 0} where
   one_of_three (Err ending.Write) status is = inr (inl is)
   one_of_three (Err (ending.BadEvent place)) status is = inr (inr is)
   one_of_three (Err (ending.Step fault)) status is = inr (inl is)
-
-  -- where the writer was left, so was what it has
-  pub silent_of : {F : Type 0} (contents : F → Option (List ℕ)) (ended : Result A Ending) (old new : F) → IfOk ended (λ _. new ≡ old) → OnOk ended (contents new ≡ contents old)
-  silent_of contents (Ok x) old new same = ap contents same
-  silent_of contents (Err why) old new same = tt

@@ -16,7 +16,6 @@ use types_core::{Participant, TermLength};
 
 /// Whose record a member's is by its settings.
 fn owner_by(settings: &Settings) -> Owner
-    requires { IsGood settings.now }
     ensures { result ≡ owner_of settings.now }
 {
     let committee = &settings.committee;

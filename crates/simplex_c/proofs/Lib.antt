@@ -1,2 +1,1 @@
 pub mod Unfit
-pub mod Numbers

@@ -1,5 +1,5 @@
 -- What numbers don't say, and how that is told.
-use Rattle.std.proofs.Common.{◌≡◌, ◌≢◌, ◌⊎◌, ◌<◌, ◌≤◌, inl, inr, ℕ, List, Bool, true, false, Option, None, Some, arith, subst, sym, refl}
+use Rattle.std.proofs.Common.{◌≡◌, ◌≢◌, ◌⊎◌, ◌<◌, inl, inr, ℕ, List, Bool, true, false, Option, None, Some, arith, subst, sym, refl}
 use Rattle.voter_rules.specs.declared.config.ForwardPolicy.{ForwardPolicy}
 use Rattle.voter_rules.specs.declared.config.ForwardPolicy.TheVariants as forward
 use Rattle.voter_rules.specs.declared.config.SkipBudget.TheVariants as budget
@@ -7,11 +7,8 @@ use Rattle.voter_rules.specs.declared.config.SkipPolicy.{SkipPolicy}
 use Rattle.voter_rules.specs.declared.config.SkipPolicy.TheVariants as skip
 use Rattle.cli_settings.specs.declared.setting.Settings.{Settings}
 use Rattle.cli_settings.specs.declared.setting.Conduct.{Conduct}
-use Rattle.cli_settings.specs.declared.fault.SettingsFault.{SettingsFault}
 use Rattle.cli_settings.specs.Building.{seed_of}
-use Rattle.cli_settings.specs.Checking.{IsFirst}
-use Rattle.cli_hosted.specs.Statuses.{Names, status_number}
-use Rattle.cli_hosted.specs.declared.status.Status.{Status}
+use Rattle.cli_hosted.specs.Statuses.{Names}
 use Rattle.cli_hosted.specs.declared.status.Status.TheVariants as status
 use Rattle.simplex_c.specs.Settings.{HasFault, HasForm, IsUnfit, SaysConduct, SaysNothing, SaysSeed, SaysSettings, SaysSkip, forward_number, truth_number, unfit_place, unfit_status}
 use Rattle.simplex_c.specs.declared.settings.SettingsNumbers.{SettingsNumbers}
@@ -82,82 +79,3 @@ never_done unfit.Memory is = absurd cc
 never_done unfit.Form is = absurd cc
 never_done unfit.Number is = absurd cc
 never_done (unfit.Fault f) is = absurd cc
-
--- one of four is told
-pub told_one_of_four : (why : Unfit) (told : Status) → told ≡ unfit_status why → told ≢ status.Memory → told ≢ status.Argument → told ≢ status.Settings → ¬ (told ≢ status.Version)
-told_one_of_four unfit.Memory told is memory number fault form = memory is
-told_one_of_four unfit.Form told is memory number fault form = form is
-told_one_of_four unfit.Number told is memory number fault form = number is
-told_one_of_four (unfit.Fault f) told is memory number fault form = fault is
-
--- settings that have this fault first
-pub unfit_by : (n : SettingsNumbers) (base seed : List ℕ) (s : Settings) → HasForm n → SaysSettings n base seed s → (f : SettingsFault) → IsFirst s f → (why : Unfit) → why ≡ unfit.Fault f
-    → IsUnfit n base seed why
-unfit_by n base seed s form says f first why is = subst (λ (w : Unfit). IsUnfit n base seed w) (sym is) (form, (s, f, says, first, refl))
-
-pub never_torn : (why : Unfit) → unfit_status why ≢ status.Torn
-never_torn unfit.Memory is = absurd cc
-never_torn unfit.Form is = absurd cc
-never_torn unfit.Number is = absurd cc
-never_torn (unfit.Fault f) is = absurd cc
-
-pub never_no_record : (why : Unfit) → unfit_status why ≢ status.NoRecord
-never_no_record unfit.Memory is = absurd cc
-never_no_record unfit.Form is = absurd cc
-never_no_record unfit.Number is = absurd cc
-never_no_record (unfit.Fault f) is = absurd cc
-
--- of what is told with a place, a fault alone is told of settings
-pub named_of : (why : Unfit) (told : Status) (named place : ℕ) → told ≡ unfit_status why → Names named place (unfit_place why)
-    → (told ≡ status.Refused) ⊎ ((told ≡ status.Foreign) ⊎ ((told ≡ status.Torn) ⊎ (told ≡ status.Settings))) → named ≡ 1
-named_of (unfit.Fault f) told named place is names which = names.0
-named_of unfit.Memory told named place is names (inl it) = absurd cc
-named_of unfit.Memory told named place is names (inr (inl it)) = absurd cc
-named_of unfit.Memory told named place is names (inr (inr (inl it))) = absurd cc
-named_of unfit.Memory told named place is names (inr (inr (inr it))) = absurd cc
-named_of unfit.Form told named place is names (inl it) = absurd cc
-named_of unfit.Form told named place is names (inr (inl it)) = absurd cc
-named_of unfit.Form told named place is names (inr (inr (inl it))) = absurd cc
-named_of unfit.Form told named place is names (inr (inr (inr it))) = absurd cc
-named_of unfit.Number told named place is names (inl it) = absurd cc
-named_of unfit.Number told named place is names (inr (inl it)) = absurd cc
-named_of unfit.Number told named place is names (inr (inr (inl it))) = absurd cc
-named_of unfit.Number told named place is names (inr (inr (inr it))) = absurd cc
-
-pub unnamed_of : (why : Unfit) (told : Status) (named place : ℕ) → told ≡ unfit_status why → Names named place (unfit_place why)
-    → (told ≡ status.Done) ⊎ ((told ≡ status.Device) ⊎ ((told ≡ status.NoRecord) ⊎ (told ≡ status.Version))) → named ≡ 0
-unnamed_of unfit.Memory told named place is names which = names
-unnamed_of unfit.Form told named place is names which = names
-unnamed_of unfit.Number told named place is names which = names
-unnamed_of (unfit.Fault f) told named place is names (inl it) = absurd cc
-unnamed_of (unfit.Fault f) told named place is names (inr (inl it)) = absurd cc
-unnamed_of (unfit.Fault f) told named place is names (inr (inr (inl it))) = absurd cc
-unnamed_of (unfit.Fault f) told named place is names (inr (inr (inr it))) = absurd cc
-
--- an opening itself tells nothing of settings
-pub not_fault : (told : Status) → status_number told ≤ 12 → told ≢ status.Settings
-not_fault told bound is = absurd (omega (arith, subst (λ (t : Status). status_number t ≤ 12) is bound))
-
-pub not_form : (told : Status) → status_number told ≤ 12 → told ≢ status.Version
-not_form told bound is = absurd (omega (arith, subst (λ (t : Status). status_number t ≤ 12) is bound))
-
-pub named_but_fault : (told : Status) (named : ℕ) → status_number told ≤ 12 → ((told ≡ status.Refused) ⊎ ((told ≡ status.Foreign) ⊎ (told ≡ status.Torn)) → named ≡ 1)
-    → (told ≡ status.Refused) ⊎ ((told ≡ status.Foreign) ⊎ ((told ≡ status.Torn) ⊎ (told ≡ status.Settings))) → named ≡ 1
-named_but_fault told named bound known (inl it) = known (inl it)
-named_but_fault told named bound known (inr (inl it)) = known (inr (inl it))
-named_but_fault told named bound known (inr (inr (inl it))) = known (inr (inr it))
-named_but_fault told named bound known (inr (inr (inr it))) = absurd (not_fault told bound it)
-
-pub unnamed_but_form : (told : Status) (named : ℕ) → status_number told ≤ 12 → ((told ≡ status.Done) ⊎ ((told ≡ status.Device) ⊎ (told ≡ status.NoRecord)) → named ≡ 0)
-    → (told ≡ status.Done) ⊎ ((told ≡ status.Device) ⊎ ((told ≡ status.NoRecord) ⊎ (told ≡ status.Version))) → named ≡ 0
-unnamed_but_form told named bound known (inl it) = known (inl it)
-unnamed_but_form told named bound known (inr (inl it)) = known (inr (inl it))
-unnamed_but_form told named bound known (inr (inr (inl it))) = known (inr (inr it))
-unnamed_but_form told named bound known (inr (inr (inr it))) = absurd (not_form told bound it)
-
--- what is told is no number of a certificate
-pub told_within : (why : Unfit) (told : Status) → told ≡ unfit_status why → status_number told ≤ 14
-told_within unfit.Memory told is = subst (λ (t : Status). status_number t ≤ 14) (sym is) (omega (arith))
-told_within unfit.Form told is = subst (λ (t : Status). status_number t ≤ 14) (sym is) (omega (arith))
-told_within unfit.Number told is = subst (λ (t : Status). status_number t ≤ 14) (sym is) (omega (arith))
-told_within (unfit.Fault f) told is = subst (λ (t : Status). status_number t ≤ 14) (sym is) (omega (arith))

@@ -4,7 +4,6 @@ ghost use Rattle.std.specs.Prelude.{◌≡◌, ◌≢◌, ◌⊎◌, ◌≤◌, 
 ghost use Rattle.journal_look.specs.Look.{BeginsLikeOne};
 ghost use Rattle.cli_settings.specs.declared.setting.Settings.{Settings as Setting};
 ghost use Rattle.cli_hosted.specs.Serving.{IsLookedAtBy, IsTornBy, asks};
-ghost use Rattle.cli_hosted.specs.Statuses.{status_number};
 ghost use Rattle.cli_hosted.specs.declared.status.Status.TheVariants.{Argument, Device, Done, Foreign, Memory, NoRecord, Refused, Settings as Faulty, Torn, Version};
 ghost use Rattle.simplex_c.specs.Settings.{HasFault, HasForm, SaysGood, SaysNothing};
 
@@ -30,7 +29,7 @@ fn checked(
     ensures answers { (result ≡ Done) ⊎ ((result ≡ Memory) ⊎ ((result ≡ Argument) ⊎ ((result ≡ Faulty) ⊎ (result ≡ Version)))) }
 {
     match settings_of(alloc, numbers, base, seed) {
-        Ok(_settings) => {
+        Ok(_) => {
             found.tell(0, None);
             Status::Done
         }
@@ -60,7 +59,6 @@ fn opened(
     ensures no_record { result ≡ NoRecord → ¬ BeginsLikeOne stored.now }
     ensures named { (result ≡ Refused) ⊎ ((result ≡ Foreign) ⊎ ((result ≡ Torn) ⊎ (result ≡ Faulty))) → found.new.named ≡ 1 }
     ensures unnamed { (result ≡ Done) ⊎ ((result ≡ Device) ⊎ ((result ≡ NoRecord) ⊎ (result ≡ Version))) → found.new.named ≡ 0 }
-    ensures bound { status_number result ≤ 14 }
 {
     match settings_of(alloc, numbers, base, seed) {
         Ok(settings) => opened_by(alloc, &settings, cuts, stored, node, found),

@@ -294,6 +294,49 @@ fn what_the_record_has_goes_to_all_again_behind_each_opening() {
 }
 
 #[test]
+fn signatures_are_written_before_the_next_event_whether_or_not_anything_leaves() {
+    let folder = tempfile::tempdir().unwrap();
+    let network = Remembered::default();
+    let member = Running::new(folder.path(), LONG, network, |_, _| reply(Vec::new()));
+    let vote = nullify(1, 1);
+    member.packet(1, vote.bytes(), vec![signature(&vote)]);
+    until("the signature is in the file", || {
+        let disk = std::fs::read(folder.path().join("signatures")).unwrap();
+        let mut parts = disk.windows(64);
+        parts.any(|part| part == signature(&vote)).then_some(())
+    });
+    member.stop();
+}
+
+#[test]
+fn what_the_record_has_goes_to_all_again_behind_each_opening() {
+    let folder = tempfile::tempdir().unwrap();
+    let short = Duration::from_millis(200);
+    let network = Remembered::default();
+    let member = Running::new(folder.path(), short, network, |_, _| reply(Vec::new()));
+    // By others' votes the signatures of the nullification are known of which the next opening tells.
+    for signer in 1..4 {
+        let vote = nullify(1, signer);
+        member.packet(signer, vote.bytes(), vec![signature(&vote)]);
+    }
+    let own = nullify(2, 0);
+    let expected = [
+        (Channel::Certificates, nullification(1, 1)),
+        (Channel::Votes, own.bytes()),
+    ];
+    until("both go out", || {
+        let sent = member.network.sent.lock().unwrap();
+        let packets = sent.iter().filter_map(|(to, frame)| match frame {
+            Frame::Packet(sealed) if to.is_none() => Some((sealed.channel, sealed.plain.clone())),
+            _ => None,
+        });
+        let packets: Vec<_> = packets.collect();
+        packets.ends_with(&expected).then_some(())
+    });
+    member.stop();
+}
+
+#[test]
 fn the_signatures_of_what_the_node_refuses_are_not_kept_but_those_of_evidence() {
     let folder = tempfile::tempdir().unwrap();
     let network = Remembered::default();

@@ -1,13 +1,12 @@
 use Rattle.std.proofs.Common.{refl}
-use Rattle.cli_member.proofs.Comes.{comes_by, committee_is, led_by}
+use Rattle.cli_member.proofs.Comes.{comes_by, committee_is}
 use Rattle.cli_member.proofs.running.drive_member.Goals as goal
 
 pub returns-clause-comes_to : goal.returns-clause-comes_to
 returns-clause-comes_to g c =
-    let served = rw (c.config.ensures, committee_is _ _ _ _ c.in-Ok.ensures.base c.in-Ok.ensures.members c.in-Ok.ensures.me) at c.serve_over.ensures.serves in
-    led_by c.args.settings.now.committee c.in-Ok-elector.elector _ _
+    comes_by _ c.args.settings.now.member c.serve_over.result.0 _ c.args.settings.now.committee c.in-Ok-elector.elector _ refl
     (record { order = c.in-Ok-elector.ensures.order; terms = c.in-Ok-elector.ensures.terms })
-    (comes_by _ c.args.settings.now.member c.serve_over.result.0 _ _ refl served)
+    (rw (c.config.ensures, committee_is _ _ _ _ c.in-Ok.ensures.base c.in-Ok.ensures.members c.in-Ok.ensures.me) at c.serve_over.ensures.serves)
 
 pub returns-clause-streams : goal.returns-clause-streams
 returns-clause-streams g c = c.serve_over.ensures.streams

@@ -1,5 +1,5 @@
 use Rattle.std.proofs.Common.{inl, inr, refl}
-use Rattle.cli_member.proofs.Ended.{ended_status, one_of_three, silent_of}
+use Rattle.cli_member.proofs.Ended.{ended_status, one_of_three}
 use Rattle.cli_member.proofs.running.member_over.Goals as goal
 
 pub returns-clause-statuses : goal.returns-clause-statuses
@@ -36,7 +36,7 @@ returns-clause-comes_to g c =
         untouched = c.look_for.ensures.untouched;
         mid = _;
         found_told = c.say_found.ensures.told;
-        silent = silent_of g.F.Write.contents c.drive_member-ended.result.0 _ _ c.tell.ensures.silent;
+        silent = c.tell.ensures.silent;
         told = c.tell.ensures.told;
       },
       c.drive_member-ended.ensures.streams,
