@@ -1,4 +1,7 @@
-pub mod Places
-pub mod Values
+pub mod Begun
+pub mod Counted
+pub mod Held
 pub mod Looked
 pub mod Opens
+pub mod Places
+pub mod Values

@@ -1,6 +1,10 @@
+pub mod Handles
+pub mod Held
 pub mod HostedDisk
+pub mod Hosting
 pub mod Members
 pub mod Place
 pub mod Requests
 pub mod Serving
+pub mod Sessions
 pub mod Statuses

@@ -1,17 +1,21 @@
 //! Calls on a member's node.
 
-ghost use Rattle.std.specs.Prelude.{◌≡◌, ◌≢◌, ◌<◌, ◌≤◌, ◌⊎◌, Ok, Err, IfErr, IfOk, false, true};
+ghost use Rattle.std.specs.Prelude.{◌≡◌, ◌≢◌, ◌<◌, ◌≤◌, ◌⊎◌, Ok, Err, IfErr, IfOk, None, Result, Some, ⊤, false, length, take, true};
 ghost use Rattle.journal_look.specs.Look.{BeginsLikeOne};
 ghost use Rattle.cli_settings.specs.Checking.{HasTurns, IsGood};
 ghost use Rattle.cli_opening.specs.Looking.{IsBeyondCut};
+ghost use Rattle.simplex_member.specs.declared.fault.IoFault.{IoFault as Ending};
+ghost use Rattle.cli_hosted.specs.Held.{held_by};
+ghost use Rattle.cli_hosted.specs.Hosting.{AreTaken};
 ghost use Rattle.cli_hosted.specs.Members.{IsBarredFor, IsFoundFor, owner_of};
 ghost use Rattle.cli_hosted.specs.Statuses.{Names, status_number};
 ghost use Rattle.cli_hosted.specs.Serving.{IsLookedAt, IsLookedAtBy, IsTornAt, IsTornBy, barred_place, barred_status, ending_status, run_place, run_status, unopened_place, unopened_status, unstepped_status};
+ghost use Rattle.cli_hosted.specs.Sessions.{SessionState};
 ghost use Rattle.cli_hosted.specs.declared.status.Status.TheVariants.{Argument, Device, Done, Foreign, Invalid, NoRecord, Refused, Room, Torn};
 
 use crate::found::Found;
 use crate::handle::Handle;
-use crate::requests::take_all;
+use crate::promises::{Promised, Promises};
 use crate::session::Session;
 use crate::status::Status;
 use crate::views::Views;
@@ -35,6 +39,9 @@ pub fn opened(
     found: &mut Found,
 ) -> Status
     requires { member < members }
+    ensures begun { result ≡ Done
+        → (state : SessionState) × (held_by node.new ≡ Some state)
+        × ⟦<Promised as Promises>⟧.begun_as member members stored.now state }
     ensures opened { result ≡ Done → node.new.live ≡ 1 }
     ensures unopened { result ≢ Done → node.new ≡ node.old }
     ensures looked { result ≡ Done → IsLookedAt member members cuts stored.now }
@@ -61,6 +68,8 @@ pub fn opened_by(
     found: &mut Found,
 ) -> Status
     requires { IsGood settings.now }
+    ensures begun { result ≡ Done
+        → (state : SessionState) × (held_by node.new ≡ Some state) × ⟦<Promised as Promises>⟧.begun_by settings.now stored.now state }
     ensures opened { result ≡ Done → node.new.live ≡ 1 }
     ensures unopened { result ≢ Done → node.new ≡ node.old }
     ensures looked { result ≡ Done → IsLookedAtBy settings.now cuts stored.now }
@@ -104,6 +113,8 @@ fn owner_by(settings: &Settings) -> Owner
 
 /// What became of an opening.
 fn begun(opening: Result<Box<Session>, OpenFault>, node: &mut Handle, found: &mut Found) -> Status
+    ensures held { IfOk opening (λ session. held_by node.new ≡ Some session.value) }
+    ensures not_held { IfErr opening (λ _. result ≢ Done) }
     ensures opened { result ≡ Done → node.new.live ≡ 1 }
     ensures unopened { result ≢ Done → node.new ≡ node.old }
     ensures bound { status_number result ≤ 10 }
@@ -150,6 +161,11 @@ fn place_of(why: Barred) -> Option<u64>
 
 /// Has the node answer events.
 pub fn stepped(alloc: Global, node: &mut Handle, events: &[u8], found: &mut Found) -> Status
+    ensures answered { (old : SessionState)
+        → held_by node.old ≡ Some old
+        → (new : SessionState) × (ended : Result ⊤ Ending) × (held_by node.new ≡ Some new)
+        × ⟦<Promised as Promises>⟧.answered old events.now ended new × (result ≡ run_status ended)
+        × Names found.new.named found.new.place (run_place ended) }
     ensures dead { node.old.live ≢ 1 → (result ≡ Argument) × (node.new.live ≡ 0) }
     ensures live { node.old.live ≡ 1 → node.new.live ≡ 1 }
     ensures named { result ≡ Invalid → found.new.named ≡ 1 }
@@ -171,6 +187,7 @@ pub fn requests_taken(
     room: &mut [u8],
     found: &mut Found,
 ) -> Status
+    ensures held { held_by node.new ≡ held_by node.old }
     ensures dead { node.old.live ≢ 1 → (result ≡ Argument) × (node.new.live ≡ 0) }
     ensures live { node.old.live ≡ 1 → node.new.live ≡ 1 }
     ensures answers { (result ≡ Done) ⊎ ((result ≡ Argument) ⊎ (result ≡ Room)) }
@@ -187,6 +204,11 @@ pub fn requests_taken(
 
 /// Puts the replies at the front of the room, where they fit.
 pub fn replies_taken(alloc: Global, node: &mut Handle, room: &mut [u8], found: &mut Found) -> Status
+    ensures taken { (old : SessionState)
+        → held_by node.old ≡ Some old
+        → (new : SessionState) × (held_by node.new ≡ Some new)
+        × ((result ≡ Done → AreTaken old new (Ok found.new.length) room.old room.new)
+        × (result ≢ Done → AreTaken old new (Err found.new.length) room.old room.new)) }
     ensures dead { node.old.live ≢ 1 → (result ≡ Argument) × (node.new.live ≡ 0) }
     ensures live { node.old.live ≡ 1 → node.new.live ≡ 1 }
     ensures answers { (result ≡ Done) ⊎ ((result ≡ Argument) ⊎ (result ≡ Room)) }
@@ -196,13 +218,17 @@ pub fn replies_taken(alloc: Global, node: &mut Handle, room: &mut [u8], found: &
     let Some(mut session) = node.taken(alloc) else {
         return Status::Argument;
     };
-    let taken = take_all(session.replies(), room);
+    let taken = session.take_replies(room);
     *node = Handle::of(session);
     fitted(taken, found)
 }
 
 /// Tells the view that the node is in, and the last that is final.
 pub fn views_told(alloc: Global, node: &mut Handle, views: &mut Views) -> Status
+    ensures held { held_by node.new ≡ held_by node.old }
+    ensures views { (state : SessionState)
+        → held_by node.old ≡ Some state
+        → ⟦<Promised as Promises>⟧.is_in state views.new.current views.new.finalized }
     ensures dead { node.old.live ≢ 1 → (result ≡ Argument) × (node.new.live ≡ 0) × (views.new ≡ views.old) }
     ensures live { node.old.live ≡ 1 → (result ≡ Done) × (node.new.live ≡ 1) }
 {
@@ -218,6 +244,7 @@ pub fn views_told(alloc: Global, node: &mut Handle, views: &mut Views) -> Status
 
 /// Lets the node go.
 pub fn closed(alloc: Global, node: &mut Handle) -> Status
+    ensures held { held_by node.new ≡ None }
     ensures live { node.old.live ≡ 1 → result ≡ Done }
     ensures dead { node.old.live ≢ 1 → result ≡ Argument }
     ensures left { node.new.live ≡ 0 }

@@ -1,19 +1,23 @@
 //! A member's node between two calls.
 
-ghost use Rattle.std.specs.Prelude.{◌≡◌, ◌<◌, ◌++◌, ℕ, IfOk, None, Some};
+ghost use Rattle.std.specs.Prelude.{◌≡◌, ◌<◌, ◌++◌, ℕ, IfOk, None, Ok, Some};
 ghost use Rattle.cli_settings.specs.Building.{config_of};
 ghost use Rattle.cli_settings.specs.Checking.{IsGood};
+ghost use Rattle.cli_hosted.specs.Hosting.{AreTaken, over};
 ghost use Rattle.cli_hosted.specs.Members.{AreLeaders, PlainReply, committee_of};
+ghost use Rattle.cli_hosted.specs.Sessions.{SessionState};
 ghost use Rattle.simplex_member.specs.declared.action.Reply.{Reply};
 ghost use Rattle.simplex_member.specs.Setup.{setup_of};
 ghost use Rattle.node_steps.specs.Keeps.{AtOwn};
 ghost use Rattle.node_steps.specs.Opening.{IsOpenAndSettled};
+ghost use Rattle.simplex_cli.specs.Settings.{program_committee, program_config, program_rotation};
 ghost use Rattle.simplex_node.specs.Running.{RunFails, RunsTo};
 ghost use Rattle.node_wire.specs.Streaming.{EndsIn, spelled};
 ghost use Rattle.types_terms.specs.Rotation.{Rotation};
 
 use crate::disk::HostedDisk;
-use crate::requests::Requests;
+use crate::requests::{Requests, take_all};
+use crate::promises::{Promised, Promises};
 use cli_settings::Settings;
 use journal_single::Disk;
 use node_steps::Node;
@@ -53,13 +57,13 @@ impl Drop for Session {
     }
 }
 
-// Nothing of a node is told between two calls.
+// Of its requests nothing is told: no clause speaks of the list that it shares with the disk.
 impl Model for Session {
-    ghost use Rattle.std.specs.Prelude.{⊤};
+    ghost use Rattle.cli_hosted.specs.Sessions.{SessionState};
 
-    ghost Value = { ⊤ };
+    ghost Value = { SessionState };
 
-    ghost view = { λ _. tt };
+    ghost view = { λ session. record { node = session.node; replies = session.replies.items } };
 }
 
 impl Session {
@@ -71,6 +75,7 @@ impl Session {
         stored: &[u8],
     ) -> Result<Box<Session>, OpenFault>
         requires { member < members }
+        ensures { IfOk result (λ it. ⟦<Promised as Promises>⟧.begun_as member members stored.now it.value) }
     {
         let Ok((disk, requests)) = hosted(alloc, stored) else {
             return Err(OpenFault::Memory);
@@ -87,6 +92,7 @@ impl Session {
         stored: &[u8],
     ) -> Result<Box<Session>, OpenFault>
         requires { IsGood settings.now }
+        ensures { IfOk result (λ it. ⟦<Promised as Promises>⟧.begun_by settings.now stored.now it.value) }
     {
         let Ok((disk, requests)) = hosted(alloc, stored) else {
             return Err(OpenFault::Memory);
@@ -97,7 +103,9 @@ impl Session {
     }
 
     /// Answers events, one behind another; the replies are put behind those that were not taken yet.
-    pub(crate) fn step(&mut self, alloc: Global, events: &[u8]) -> Result<(), IoFault> {
+    pub(crate) fn step(&mut self, alloc: Global, events: &[u8]) -> Result<(), IoFault>
+        ensures { ⟦<Promised as Promises>⟧.answered self.old events.now result self.new }
+    {
         go_on(alloc, &mut self.node, events, &mut self.replies)
     }
 
@@ -106,20 +114,26 @@ impl Session {
         &self.requests
     }
 
-    /// The replies that were not taken yet.
-    pub(crate) fn replies(&mut self) -> &mut Vec<u8> {
-        &mut self.replies
+    /// Puts all replies that were not taken yet at the front of the room and forgets them, where they fit, and answers their size.
+    pub(crate) fn take_replies(&mut self, room: &mut [u8]) -> Result<usize, usize>
+        ensures { AreTaken self.old self.new result room.old room.new }
+    {
+        take_all(&mut self.replies, room)
     }
 
     /// The view that the node is in, and the last that is final.
-    pub(crate) fn views(&self) -> (u64, u64) {
+    pub(crate) fn views(&self) -> (u64, u64)
+        ensures { ⟦<Promised as Promises>⟧.is_in self.now result.0 result.1 }
+    {
         let current = self.node.current_view().get();
         (current, self.node.last_finalized().get())
     }
 }
 
 /// A disk over these bytes, and what it asks.
-fn hosted(alloc: Global, stored: &[u8]) -> Result<(HostedDisk, Requests), AllocError> {
+fn hosted(alloc: Global, stored: &[u8]) -> Result<(HostedDisk, Requests), AllocError>
+    ensures { IfOk result (λ made. made.0 ≡ over stored.now) }
+{
     let requests = Requests::new(alloc)?;
     let shared = requests.shared()?;
     let stored = Vec::from_slice(alloc, stored)?;
@@ -142,7 +156,9 @@ fn held(
     node: Result<Hosted, OpenFault>,
     requests: Requests,
     replies: Vec<u8>,
-) -> Result<Box<Session>, OpenFault> {
+) -> Result<Box<Session>, OpenFault>
+    ensures { IfOk result (λ it. node ≡ Ok it.value.node × (it.value.replies ≡ replies.items)) }
+{
     match node {
         Ok(node) => boxed(
             alloc,
@@ -165,6 +181,15 @@ fn set_up<K: Disk>(
     replies: &mut Vec<u8>,
 ) -> Result<Node<PlainScheme, RoundRobinElector, Sha256Digest, K>, OpenFault>
     requires { member < members }
+    ensures opened { IfOk result (λ node.
+        (first : PlainReply) × (first.refused ≡ None) ×
+        (replies.new.items ≡ replies.old.items ++ spelled ⟦<PlainKey as Write>⟧.spelling ⟦<Sha256Digest as Write>⟧.spelling
+        ⟦<PlainSignature as Write>⟧.spelling ⟦<AttestationList<PlainSignature> as Write>⟧.spelling first) ×
+        IsOpenAndSettled ⟦<PlainScheme as Scheme<Sha256Digest>>⟧ ⟦<RoundRobinElector as Elector<PlainScheme, Sha256Digest>>⟧ K.Disk
+        (⟦<PlainScheme as Speaks<Sha256Digest>>⟧.formats members)
+        (setup_of ⟦<PlainScheme as Scheme<Sha256Digest>>⟧ ⟦<RoundRobinElector as Elector<PlainScheme, Sha256Digest>>⟧
+        program_config (program_committee member members) (program_rotation members) member)
+        ⟦<PlainScheme as Speaks<Sha256Digest>>⟧.readable disk 0 node first.actions.items) }
 {
     let Ok(scheme) = scheme(alloc, member, members) else {
         return Err(OpenFault::Memory);

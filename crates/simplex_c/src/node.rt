@@ -1,12 +1,17 @@
 //! A member's node for callers in C, which hold it between two calls.
 
-ghost use Rattle.std.specs.Prelude.{◌≡◌, ◌≢◌, ◌⊎◌, ◌≤◌};
+ghost use Rattle.std.specs.Prelude.{◌≡◌, ◌≢◌, ◌⊎◌, ◌≤◌, Err, None, Ok, Result, Some, ⊤};
 ghost use Rattle.journal_look.specs.Look.{BeginsLikeOne};
-ghost use Rattle.cli_hosted.specs.Serving.{IsLookedAt, IsTornAt, asks};
+ghost use Rattle.simplex_member.specs.declared.fault.IoFault.{IoFault};
+ghost use Rattle.cli_hosted.specs.Held.{held_by};
+ghost use Rattle.cli_hosted.specs.Hosting.{AreTaken};
+ghost use Rattle.cli_hosted.specs.Serving.{IsLookedAt, IsTornAt, asks, run_place, run_status};
+ghost use Rattle.cli_hosted.specs.Sessions.{SessionState};
+ghost use Rattle.cli_hosted.specs.Statuses.{Names, status_number};
 
 use cli_hosted::{
-    Found, Handle, Status, Views, closed, opened, replies_taken, requests_taken, stepped,
-    views_told,
+    Found, Handle, Promised, Promises, Status, Views, closed, opened, replies_taken,
+    requests_taken, stepped, views_told,
 };
 use std::alloc::Global;
 
@@ -28,6 +33,9 @@ pub extern "C" fn voumlis_proved_node_open(
 ) -> u32
     ensures stranger { members ≤ member → result ≡ 2 }
     ensures occupied { node.old.live ≢ 0 → result ≡ 2 }
+    ensures begun { result ≡ 0
+        → (state : SessionState) × (held_by node.new ≡ Some state)
+        × ⟦<Promised as Promises>⟧.begun_as member members stored.now state }
     ensures opened { result ≡ 0 → node.new.live ≡ 1 }
     ensures unopened { result ≢ 0 → node.new ≡ node.old }
     ensures looked { result ≡ 0 → IsLookedAt member members (asks cuts) stored.now }
@@ -57,6 +65,11 @@ pub extern "C" fn voumlis_proved_node_step(
     events: &[u8],
     found: &mut Found,
 ) -> u32
+    ensures answered { (old : SessionState)
+        → held_by node.old ≡ Some old
+        → (new : SessionState) × (ended : Result ⊤ IoFault) × (held_by node.new ≡ Some new)
+        × ⟦<Promised as Promises>⟧.answered old events.now ended new × (result ≡ status_number (run_status ended))
+        × Names found.new.named found.new.place (run_place ended) }
     ensures dead { node.old.live ≢ 1 → (result ≡ 2) × (node.new.live ≡ 0) }
     ensures live { node.old.live ≡ 1 → node.new.live ≡ 1 }
     ensures named { result ≡ 5 → found.new.named ≡ 1 }
@@ -76,6 +89,7 @@ pub extern "C" fn voumlis_proved_node_requests(
     room: &mut [u8],
     found: &mut Found,
 ) -> u32
+    ensures held { held_by node.new ≡ held_by node.old }
     ensures dead { node.old.live ≢ 1 → (result ≡ 2) × (node.new.live ≡ 0) }
     ensures live { node.old.live ≡ 1 → node.new.live ≡ 1 }
     ensures unwritten { result ≢ 0 → room.new ≡ room.old }
@@ -95,6 +109,11 @@ pub extern "C" fn voumlis_proved_node_replies(
     room: &mut [u8],
     found: &mut Found,
 ) -> u32
+    ensures taken { (old : SessionState)
+        → held_by node.old ≡ Some old
+        → (new : SessionState) × (held_by node.new ≡ Some new)
+        × ((result ≡ 0 → AreTaken old new (Ok found.new.length) room.old room.new)
+        × (result ≢ 0 → AreTaken old new (Err found.new.length) room.old room.new)) }
     ensures dead { node.old.live ≢ 1 → (result ≡ 2) × (node.new.live ≡ 0) }
     ensures live { node.old.live ≡ 1 → node.new.live ≡ 1 }
     ensures unwritten { result ≢ 0 → room.new ≡ room.old }
@@ -111,6 +130,10 @@ pub extern "C" fn voumlis_proved_node_views(
     node: &mut Handle,
     views: &mut Views,
 ) -> u32
+    ensures held { held_by node.new ≡ held_by node.old }
+    ensures views { (state : SessionState)
+        → held_by node.old ≡ Some state
+        → ⟦<Promised as Promises>⟧.is_in state views.new.current views.new.finalized }
     ensures dead { node.old.live ≢ 1 → (result ≡ 2) × (node.new.live ≡ 0) × (views.new ≡ views.old) }
     ensures live { node.old.live ≡ 1 → (result ≡ 0) × (node.new.live ≡ 1) }
 {
@@ -120,6 +143,7 @@ pub extern "C" fn voumlis_proved_node_views(
 /// Lets a node go. Answers 0, or 2 where none is open.
 #[unsafe(no_mangle)]
 pub extern "C" fn voumlis_proved_node_close(alloc: Global, node: &mut Handle) -> u32
+    ensures held { held_by node.new ≡ None }
     ensures live { node.old.live ≡ 1 → result ≡ 0 }
     ensures dead { node.old.live ≢ 1 → result ≡ 2 }
     ensures left { node.new.live ≡ 0 }
