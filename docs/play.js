@@ -365,16 +365,28 @@ function fromLink() {
 
 // ---- reports and records of somebody's own
 
+/** How many files were asked about, and of which one the answer stands there. */
+const answering = { asked: 0, told: 0 };
+
+/** Tells what a file says. Of two the last one is told, whichever is read sooner; a folder, or a file that is gone, can't be read. */
 async function answer(file) {
+  const number = ++answering.asked;
+  at("answer").textContent = "…";
+  const told = await examined(file).catch((error) => `${file.name || "it"} can't be read: ${error.message}`);
+  if (number !== answering.asked) return;
+  at("answer").textContent = told;
+  answering.told = number;
+}
+
+async function examined(file) {
   const bytes = new Uint8Array(await file.arrayBuffer()), members = Math.min(Math.max(Math.round(at("count").value), 0) || 0, 65535);
   const isRecord = at("is-record").checked, owner = Math.min(Math.max(Math.round(at("owner").value), 0) || 0, 65535);
-  at("answer").textContent = "…";
   const asks = isRecord ? ["record", members, owner, bytes] : ["audit", members, bytes];
   const helper = worker();
   const { status, text } = await helper.ask(...asks);
   helper.end();
   const words = { [STATUS.MEMORY]: "memory ran out", [STATUS.ARGUMENT]: "a committee has one member or more" };
-  at("answer").textContent = status === STATUS.DONE ? text || "nobody is named: no two votes here contradict each other" : words[status] ?? `the module answers ${status}`;
+  return status === STATUS.DONE ? text || "nobody is named: no two votes here contradict each other" : words[status] ?? `the module answers ${status}`;
 }
 
 // ---- the page
@@ -394,6 +406,7 @@ function wire() {
   at("step").onclick = step;
   at("stop").onclick = stop;
   for (const name of ["lie", "crash", "split", "finish"]) at(name).onclick = () => seek(IS[name]);
+  at("file").onclick = ({ target }) => { target.value = ""; }; // so that the same file may be chosen again
   at("file").onchange = (change) => change.target.files[0] && answer(change.target.files[0]);
   at("lanes").addEventListener("wheel", () => { play.isZoomed = true; });
   for (const id of ["in", "out"]) at(id).addEventListener("click", () => { play.isZoomed = true; });

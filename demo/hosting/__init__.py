@@ -8,6 +8,7 @@ has to keep true, by the functions of these modules. Read them in this order:
     node          the program `simplex node` as a child, one event and one reply at a time
     application   what is built, checked and accepted
     reports       the log of a member's reports
+    pace          the time as a node is told it
     host          one member: carries out what its node hands out
     lanes         what of that a page shows
     committee     all members, and what the page's buttons do to them

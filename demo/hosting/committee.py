@@ -11,7 +11,7 @@ from time import monotonic
 from member.positions import quorum
 from node_program import setup_of
 
-from .host import Host, Place
+from .host import LONGEST_STUCK, Host, Place
 from .lanes import BLOCKS, Board, Lane
 
 # Behind so many seconds without a final view a page says so, and why.
@@ -40,7 +40,7 @@ class Committee:
             own = folder / f"member-{me}"
             own.mkdir(parents=True, exist_ok=True)
             keys = {peer: pairs[frozenset((me, peer))] for peer in range(count) if peer != me}
-            self.places.append(Place(me, count, program, own, pace, keys, ports, self.cuts, self.board.watch))
+            self.places.append(Place(me, count, program, own, pace, keys, ports, self.cuts, self.board.watch, self.board.tell))
         self.hosts: dict[int, Host] = {}
         self.lives: dict[int, asyncio.Task] = {}
 
@@ -51,12 +51,19 @@ class Committee:
         lane = self.board.lanes[me]
         lane.state = "running"
         lane.blocked.clear()
+        self.places[me].blocked.clear()
         self.hosts[me] = Host(self.places[me])
-        self.lives[me] = asyncio.create_task(self.live(me, self.hosts[me]))
+        self.lives[me] = asyncio.create_task(self.live(me))
 
-    async def live(self, me: int, host: Host) -> None:
+    async def live(self, me: int) -> None:
+        """One life after the other, as long as each ends since no view was entered for long."""
+        place = self.places[me]
         try:
-            told = await host.live()
+            while not (told := await self.hosts[me].live()):
+                self.board.tell(f"member {me} entered no view for long: its record is opened again")
+                place.patience = min(place.patience * 2, LONGEST_STUCK)
+                lies, self.hosts[me] = self.hosts[me].lies, Host(place)
+                self.hosts[me].lies = lies
         except Exception as error:  # a host that fails must not look like one that runs
             traceback.print_exception(error)
             told = f"its host failed, {type(error).__name__}"
@@ -102,6 +109,7 @@ class Committee:
 
     def mend(self, one: int, other: int) -> None:
         self.cuts.discard(frozenset((one, other)))
+        self.tell_again(one, other)
         self.board.tell(f"the link between {one} and {other} is mended")
 
     def isolate(self, me: int) -> None:
@@ -110,7 +118,15 @@ class Committee:
 
     def rejoin(self, me: int) -> None:
         self.cuts -= {pair for pair in self.cuts if me in pair}
+        for other in self.hosts:
+            self.tell_again(me, other)
         self.board.tell(f"all links of member {me} are mended")
+
+    def tell_again(self, one: int, other: int) -> None:
+        """Behind a mended link each end tells the other what is current: what was sent over the cut is lost."""
+        for me, peer in ((one, other), (other, one)):
+            if me != peer and self.is_running(me):
+                self.hosts[me].links.outgoing[peer].tell_again()
 
     async def audit(self) -> None:
         """`simplex audit` over the reports of all members."""

@@ -2,9 +2,10 @@
 
 Each member dials each other one and sends on that connection alone; what it hears comes on connections that its peers dialed.
 So a name is proved once a direction, and an end that falls takes only its own with it. Packets to a peer that isn't connected,
-or whose queue is full, are lost: a node expects that of a network, and asks again.
+or whose queue is full, are lost, as on any network. A node hands each out once: so a peer that comes back is told what is current.
 """
 import asyncio
+from collections import deque
 from collections.abc import Callable, Mapping
 
 from . import wire
@@ -14,21 +15,42 @@ LOOPBACK = "127.0.0.1"
 REDIAL = 0.2
 # Frames that wait for a slow peer: some seconds of a committee at work.
 ROOM = 1024
+# The most frames that are told again: those of some views.
+CURRENT = 128
 
 TROUBLES = (OSError, EOFError, TimeoutError, wire.Refused)
+
+
+class Current:
+    """What a peer that comes back has to hear: the last finalization, and what went to all of views above it."""
+
+    def __init__(self) -> None:
+        self.frames: deque[tuple[int, Frame]] = deque(maxlen=CURRENT)
+
+    def add(self, view: int, frame: Frame, is_final: bool = False) -> None:
+        if is_final:
+            self.frames = deque((it for it in self.frames if it[0] > view), CURRENT)
+            self.frames.appendleft((view, frame))
+        else:
+            self.frames.append((view, frame))
 
 
 class Outgoing:
     """What goes to one peer."""
 
-    def __init__(self, me: int, peer: int, key: bytes) -> None:
-        self.me, self.peer, self.key = me, peer, key
+    def __init__(self, me: int, peer: int, key: bytes, current: Current) -> None:
+        self.me, self.peer, self.key, self.current = me, peer, key, current
         self.queue: asyncio.Queue[Frame] = asyncio.Queue(ROOM)
         self.connected = asyncio.Event()
 
     def send(self, frame: Frame) -> None:
         if self.connected.is_set() and not self.queue.full():
             self.queue.put_nowait(frame)
+
+    def tell_again(self) -> None:
+        """What is current: the node of a peer that has it refuses it as a repetition."""
+        for _, frame in self.current.frames:
+            self.send(frame)
 
     async def run(self, port_of: Callable[[int], int | None]) -> None:
         """Dials, sends, and dials again when the connection falls."""
@@ -54,6 +76,7 @@ class Outgoing:
         try:
             await wire.introduce(reader, writer, self.me, self.peer, self.key)
             self.connected.set()
+            self.tell_again()
             async with asyncio.TaskGroup() as both:
                 both.create_task(self.pump(writer))
                 both.create_task(until_closed(reader))
@@ -82,7 +105,8 @@ class Links:
         hear: Callable[[int, Frame], None],
     ) -> None:
         self.me, self.keys, self.port_of, self.hear = me, keys, port_of, hear
-        self.outgoing = {peer: Outgoing(me, peer, key) for peer, key in keys.items()}
+        self.current = Current()
+        self.outgoing = {peer: Outgoing(me, peer, key, self.current) for peer, key in keys.items()}
         self.incoming: dict[asyncio.StreamWriter, int] = {}
         self.server: asyncio.Server | None = None
 

@@ -12,6 +12,7 @@ stand as words (see words.py) or as the hexadecimal digits of their spelling.
         view of the term before it is decided. Payloads have 32 bytes; view 0 stands for 32 bytes 00
     found ARTIFACT , ARTIFACT ..  => ok      the disk holds these (- for none)
     disk HEX                      => ok      the disk holds these bytes
+    disk HEX HEX                  => ok      so do two disks, which are opened both
     open NOW                      => REPLY, fault NUMBER, fault NUMBER PLACE, or crash
     event EVENT                   => REPLY, fault NUMBER, or crash
     stream HEX                    => HEX, and behind it bad PLACE or fault NUMBER where that ends early: the replies to the
@@ -20,7 +21,7 @@ stand as words (see words.py) or as the hexadecimal digits of their spelling.
                                      the bytes behind NOW spell, and behind it fault NUMBER where a step failed; or as behind open
     current_view, last_finalized  => NUMBER
     record                        => the artifacts, as behind found
-    bytes                         => HEX     closes the node that is open: the disk holds these bytes
+    bytes                         => HEX     closes the node that is open: the disk holds these bytes; HEX HEX: each of two
     is_failed                     => false, or true behind a fault of a step
     fuse K, fail_at K             => ok      calls of the disk fail from now on, which says nothing of a node
 
@@ -43,6 +44,8 @@ from .voter import current, last_finalized
 
 NO_KEY, CONFIG, MOMENT_TOO_LATE, FOREIGN, CONTRADICTION, DEVICE, MEMORY, TOO_MANY_OPTIMISTIC = range(1, 9)
 STEP_MEMORY, STEP_DEVICE, STEP_FAILED = 1, 2, 3
+# What a generation of two disks begins with, and how many bytes stand before its record.
+GENERATION, HEAD = b"\x02\xff\xff\xff\xff", 9
 
 
 class BadCase(Exception):
@@ -91,6 +94,7 @@ class Case:
     def __init__(self, setup):
         self.setup, self.found, self.disk, self.foreign = setup, (), None, None
         self.h, self.has_failed, self.may_hold, self.told = None, False, None, []
+        self.head, self.beside = b"", None
 
     # ---- what the disk holds
 
@@ -114,6 +118,26 @@ class Case:
         artifacts, foreign = self.read(data)
         self.hold(artifacts)
         self.foreign = foreign
+
+    def put(self, text):
+        """One disk, or two: of two the second is read where it holds a generation, and the other is never written."""
+        first, *second = (bytes.fromhex(it.replace("-", "")) for it in text.split())
+        self.head, self.beside = b"", second[0] if second else None
+        if second and second[0].startswith(GENERATION) and len(second[0]) > HEAD:
+            self.head, self.beside, first = second[0][:HEAD], first, second[0][HEAD:]
+        self.hold_bytes(first)
+        if self.foreign is not None:
+            self.foreign += len(self.head)
+
+    def told_bytes(self, answer):
+        """The bytes of the record that is told, where the disk beside it is as it was."""
+        told = [bytes.fromhex(it.replace("-", "")) for it in answer.split()]
+        if self.beside is not None:
+            read, beside = (told[1], told[0]) if self.head else told
+            if beside != self.beside or not read.startswith(self.head):
+                raise Disagreement("the disk that isn't read, or the head of the one that is, is another")
+            return read[len(self.head) :]
+        return told[0]
 
     # ---- calls
 
@@ -255,7 +279,7 @@ class Case:
         if name == "found":
             self.hold(artifacts_of(rest, self.setup.scheme))
         elif name == "disk":
-            self.hold_bytes(bytes.fromhex(rest.replace("-", "")))
+            self.put(rest)
         elif name == "open":
             self.open(rest, answer)
         elif name == "event":
@@ -271,7 +295,7 @@ class Case:
         elif name == "record":
             self.tell_record(artifacts_of(answer, self.setup.scheme))
         elif name == "bytes":
-            self.tell_bytes(bytes.fromhex(answer.replace("-", "")))
+            self.tell_bytes(self.told_bytes(answer))
         elif name == "is_failed":
             self.tell_whether_failed(answer)
         elif name in ("fuse", "fail_at"):
@@ -294,7 +318,7 @@ class Case:
             self.hold(record(self.h))
         elif self.may_hold is not None:
             self.hold_bytes(data)
-        elif self.read(data) != (self.found, self.foreign):
+        elif self.read(data) != (self.found, None if self.foreign is None else self.foreign - len(self.head)):
             raise Disagreement("it holds something else")
 
     def tell_whether_failed(self, answer):

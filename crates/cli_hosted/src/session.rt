@@ -4,6 +4,7 @@ ghost use Rattle.std.specs.Prelude.{◌≡◌, ◌<◌, ◌++◌, ℕ, IfOk, Non
 ghost use Rattle.cli_settings.specs.Building.{config_of};
 ghost use Rattle.cli_settings.specs.Checking.{IsGood};
 ghost use Rattle.cli_hosted.specs.Members.{AreLeaders, PlainReply, committee_of};
+ghost use Rattle.journal_books.specs.declared.disks.Disks.TheVariants.{One};
 ghost use Rattle.simplex_member.specs.declared.action.Reply.{Reply};
 ghost use Rattle.simplex_member.specs.Setup.{setup_of};
 ghost use Rattle.node_steps.specs.Keeps.{AtOwn};
@@ -49,7 +50,7 @@ impl Drop for Session {
             requests: _,
             replies: _,
         } = self;
-        drop(node.close());
+        drop(node.into_disks());
     }
 }
 
@@ -191,7 +192,7 @@ fn set_up_by<K: Disk>(
         (⟦<PlainScheme as Speaks<Sha256Digest>>⟧.formats settings.now.committee.members)
         (setup_of ⟦<PlainScheme as Scheme<Sha256Digest>>⟧ ⟦<RoundRobinElector as Elector<PlainScheme, Sha256Digest>>⟧
         (config_of settings.now) (committee_of settings.now) leaders settings.now.member)
-        ⟦<PlainScheme as Speaks<Sha256Digest>>⟧.readable disk 0 node first.actions.items) }
+        ⟦<PlainScheme as Speaks<Sha256Digest>>⟧.readable (One disk) 0 node first.actions.items) }
 {
     let Ok(scheme) = settings.scheme(alloc) else {
         return Err(OpenFault::Memory);
@@ -217,7 +218,7 @@ fn begin<S: Scheme<D> + Drop, L: Elector<S, D>, D: Digest, K: Disk>(
         ×
         (replies.new.items ≡ replies.old.items ++ spelled S.PublicKey.spelling D.spelling S.Signature.spelling S.Certificate.spelling first)
         × IsOpenAndSettled S.Scheme L.Elector K.Disk (⟦<S as Speaks<D>>⟧.formats (S.size scheme.value))
-        (setup_of S.Scheme L.Elector config scheme.value elector index) ⟦<S as Speaks<D>>⟧.readable disk 0 node first.actions.items) }
+        (setup_of S.Scheme L.Elector config scheme.value elector index) ⟦<S as Speaks<D>>⟧.readable (One disk) 0 node first.actions.items) }
 {
     let mut output = CountedWriter::new(mem::replace(replies, Vec::new(alloc)));
     let opened = open_io(alloc, config, scheme, elector, disk, 0, &mut output);
@@ -226,7 +227,7 @@ fn begin<S: Scheme<D> + Drop, L: Elector<S, D>, D: Digest, K: Disk>(
         Ok((node, written)) => match written {
             Ok(()) => Ok(node),
             Err(_) => {
-                drop(node.close());
+                drop(node.into_disks());
                 Err(OpenFault::Memory)
             }
         },

@@ -7,6 +7,7 @@ use Rattle.types_terms.specs.Shuffle.{IsOrderOf}
 use Rattle.simplex_types.specs.Plain as plain
 use Rattle.messages_certificates.specs.declared.artifact.Artifact.{Artifact}
 use Rattle.journal_single.specs.declared.disk.Disk as disk
+use Rattle.journal_books.specs.declared.disks.Disks.{Disks}
 use Rattle.simplex_record.specs.declared.owner.Owner.{Owner}
 use Rattle.simplex_member.specs.declared.action.Reply.{Reply}
 use Rattle.simplex_member.specs.declared.fault.IoFault.{IoFault}
@@ -52,7 +53,7 @@ module _ {S D P G C K : Type 0} (g : Ghosts S D P G C) (k : disk.Ghosts K) (f : 
     (F : D → Type 0) (p : D → List ℕ) (w : Reply S D P G C → List ℕ) (q : List ℕ → Result (D × List ℕ) CodecError) where
   -- a program opened no record, or had no memory for what that takes, and then its output is untouched; or it opened one of a member that goes
   -- by the leaders of this committee, and ran a node over streams, at whose end it ended
-  abbrev pub MemberComesTo : Committee → (Artifact S D P G C → Type 0) → K → ℕ → Type 0 → Type 0 → Result ⊤ Ending → Option (List ℕ) → Option (List ℕ) → Option (List ℕ) → Type 0
+  abbrev pub MemberComesTo : Committee → (Artifact S D P G C → Type 0) → Disks K → ℕ → Type 0 → Type 0 → Result ⊤ Ending → Option (List ℕ) → Option (List ℕ) → Option (List ℕ) → Type 0
   MemberComesTo c Readable on now ReadFailed Untouched ended given old new =
       (((ended ≡ Err ending.Memory) ⊎ ((why : OpenFault) × (ended ≡ Err (ending.Open why)))) × Untouched)
       ⊎ ((leaders : Rotation) × AreLeaders c leaders × ((io : Result ⊤ IoFault) × (ended ≡ ended_of io) × ServesOver g k f (s leaders) F p w q Readable on now ReadFailed io given old new))

@@ -2,6 +2,7 @@
 
 ghost use Rattle.std.specs.Prelude.{◌≡◌, ◌⊎◌, Result, false, ⊤};
 ghost use Rattle.journal_single.specs.Disk.{counted};
+ghost use Rattle.journal_books.specs.declared.disks.Disks.TheVariants.{One};
 ghost use Rattle.node_wire.specs.Streaming.{spelled};
 ghost use Rattle.cli_settings.specs.Building.{config_of};
 ghost use Rattle.cli_settings.specs.Checking.{IsGood};
@@ -47,7 +48,7 @@ pub fn drive_member<K: Disk, R: Source, W: Sink>(
         ⟦<Sha256Digest as Write>⟧.fits ⟦<Sha256Digest as Write>⟧.spelling
         (spelled ⟦<PlainKey as Write>⟧.spelling ⟦<Sha256Digest as Write>⟧.spelling ⟦<PlainSignature as Write>⟧.spelling
         ⟦<AttestationList<PlainSignature> as Write>⟧.spelling) (⟦<Sha256Digest as Read>⟧.reading 65535) settings.now.committee
-        ⟦<PlainScheme as Speaks<Sha256Digest>>⟧.readable disk 0 (R.failed input.new ≡ counted false (R.failed input.old))
+        ⟦<PlainScheme as Speaks<Sha256Digest>>⟧.readable (One disk) 0 (R.failed input.new ≡ counted false (R.failed input.old))
         (output.new ≡ output.old) result.0 (R.remaining input.old) (W.contents output.old) (W.contents output.new) }
 {
     let Ok(scheme) = settings.scheme(alloc) else {
@@ -100,7 +101,7 @@ pub fn member_over<K: Disk, R: Source, W: Sink, F: Writes>(
         ⟦<Sha256Digest as Write>⟧.fits ⟦<Sha256Digest as Write>⟧.spelling
         (spelled ⟦<PlainKey as Write>⟧.spelling ⟦<Sha256Digest as Write>⟧.spelling ⟦<PlainSignature as Write>⟧.spelling
         ⟦<AttestationList<PlainSignature> as Write>⟧.spelling) (⟦<Sha256Digest as Read>⟧.reading 65535) settings.now.committee
-        ⟦<PlainScheme as Speaks<Sha256Digest>>⟧.readable on 0 (R.failed input.new ≡ counted false (R.failed input.old))
+        ⟦<PlainScheme as Speaks<Sha256Digest>>⟧.readable (One on) 0 (R.failed input.new ≡ counted false (R.failed input.old))
         (output.new ≡ output.old) ended (R.remaining input.old) (W.contents output.old) (W.contents output.new)) }
 {
     let mut disk = disk;

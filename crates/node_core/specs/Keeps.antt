@@ -6,7 +6,10 @@ use Rattle.types_terms.specs.declared.elector.Elector as elector
 use Rattle.simplex_state.specs.State as voting
 use Rattle.node_votes.specs.KeepsVotes as accepting
 use Rattle.simplex_resolver.specs.Keeps as repairing
+use Rattle.messages_certificates.specs.declared.artifact.Artifact.{Artifact}
 use Rattle.journal_single.specs.declared.disk.Disk as disk
+use Rattle.journal_books.specs.declared.books.Books.{Books}
+use Rattle.journal_books.specs.declared.disks.Disks.{Disks}
 use Rattle.node_record.specs.Ledger as ledgers
 use Rattle.node_record.specs.Ledger.{KeepsRecord}
 use Rattle.node_record.specs.Tables.{KeepsTables}
@@ -19,9 +22,13 @@ use Rattle.simplex_member.specs.Setup.{Setup, owner_of}
 use Rattle.node_core.specs.SettingUp.{IsSetUp}
 use Rattle.node_core.specs.declared.node_state.Core.{Core}
 
--- the disk that a node stands on
-abbrev pub disk_of : {S L D K P G C : Type 0} → Core S L D K P G C → K
-disk_of node = ledgers.disk_of node.ledger
+-- the journal that a node keeps
+abbrev pub book_of : {S L D K P G C : Type 0} → Core S L D K P G C → Books (Artifact S D P G C) K
+book_of node = ledgers.book_of node.ledger
+
+-- the disks that it stands on
+abbrev pub disks_of : {S L D K P G C : Type 0} → Core S L D K P G C → Disks K
+disks_of node = ledgers.disks_of node.ledger
 
 module _ {S L D P G C K : Type 0} (g : Ghosts S D P G C) (e : elector.Ghosts L S D P G C) (k : disk.Ghosts K) where
   -- the node stands where this history leads: the record was gone through, each point was allowed, and each layer

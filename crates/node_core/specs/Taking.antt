@@ -20,6 +20,6 @@ module _ {S L D P G C K : Type 0} (g : Ghosts S D P G C) (e : elector.Ghosts L S
     pub acts : (deeds : List (Deed S D P G C)) → AreActions f before deeds → AreActions f after (deeds ++ deeds_of g f s h p)
 
 module _ {S D P G C : Type 0} (g : Ghosts S D P G C) (f : Formats S D P G C) (s : Setup S D C) where
-  -- an image reads as what taking a point may leave: the record before it, or the one behind it
-  abbrev pub IsLeftBy : History S D P G C → Point S D P G C → List ℕ → Type 0
-  IsLeftBy h p image = ReadsAs g f s image h ⊎ (Allowed g f s h p × ReadsAs g f s image (p ∷ h))
+  -- what is read is what taking a point may leave: the record before it, or the one behind it
+  abbrev pub IsLeftBy : History S D P G C → Point S D P G C → List (List ℕ) → Type 0
+  IsLeftBy h p read = ReadsAs g f s read h ⊎ (Allowed g f s h p × ReadsAs g f s read (p ∷ h))

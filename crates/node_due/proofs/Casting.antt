@@ -43,9 +43,10 @@ use Rattle.node_votes.specs.declared.acceptance.Acceptance.{Acceptance}
 use Rattle.node_votes.specs.KeepsVotes as accepting
 use Rattle.node_votes.specs.KeepsVotes.{IsOpenTo, QuietStays}
 use Rattle.journal_single.specs.declared.disk.Disk as disk
-use Rattle.journal_single.specs.Disk.{Call, LeavesOnly, counted}
-use Rattle.journal_single.specs.Moments.{weaker}
-use Rattle.journal_single.specs.Record.{Reads}
+use Rattle.journal_books.specs.declared.books.Books.{Books}
+use Rattle.journal_books.specs.declared.disks.Disks.{Disks}
+use Rattle.journal_books.specs.Books.{HasFailed, HasNotFailed, LeaveBook}
+use Rattle.journal_books.specs.BooksLaws.{book_weaker}
 use Rattle.node_record.specs.declared.ledger.Ledger.{Ledger}
 use Rattle.node_record.specs.Ledger.{KeepsRecord}
 use Rattle.node_record.specs.Recorded.{IsLastNullifyOf}
@@ -72,7 +73,7 @@ use Rattle.node_requests.specs.Waking.{after_poll}
 use Rattle.node_core.specs.declared.node_state.Core.{Core}
 use Rattle.node_due.specs.Acting.{ComesTo, HasActed, IsLeftByActs, WasTried}
 use Rattle.node_due.specs.Ahead.{MayCome, VoterIsAhead}
-use Rattle.node_core.specs.Keeps.{CoreKeeps, disk_of}
+use Rattle.node_core.specs.Keeps.{CoreKeeps, book_of}
 use Rattle.node_due.specs.NoneDue.{NoNullifyToCast}
 use Rattle.node_core.specs.Telling.{TellsOfDisk}
 use Rattle.node_core.specs.Taking.{IsLeftBy, IsTaken}
@@ -87,23 +88,25 @@ more_acted : {S D P G C : Type 0} (p : Point S D P G C) (points : List (Point S 
 more_acted {S} {D} {P} {G} {C} p points own are = All-cons (λ (q : Point S D P G C). is_act q ≡ true) p points own are
 
 module _ {S D P G C : Type 0} (g : Ghosts S D P G C) (f : Formats S D P G C) (s : Setup S D C) where
-  left_act : (h : History S D P G C) (p : Point S D P G C) (image : List ℕ) → is_act p ≡ true → IsLeftBy g f s h p image → IsLeftByActs g f s h image
-  left_act h p image own left = ⊎_elim
+  left_act : (h : History S D P G C) (p : Point S D P G C) (read : List (List ℕ)) → is_act p ≡ true → IsLeftBy g f s h p read → IsLeftByActs g f s h read
+  left_act h p read own left = ⊎_elim
       (λ before. ([], h, none_acted, refl, before))
       (λ behind. (p ∷ [], p ∷ h, more_acted p [] own none_acted, (behind.0, refl), behind.1))
       left
 
-  -- what taking a point of the node's own leaves is what its acts leave
-  pub left_by_act : (h : History S D P G C) (p : Point S D P G C) (old new : List Call) → is_act p ≡ true → LeavesOnly old new (IsLeftBy g f s h p) → LeavesOnly old new (IsLeftByActs g f s h)
-  left_by_act h p old new own leaves = weaker (IsLeftByActs g f s h) leaves (λ image left. left_act h p image own left)
+  module _ {K : Type 0} (k : disk.Ghosts K) where
+    -- what taking a point of the node's own leaves is what its acts leave
+    pub left_by_act : (h : History S D P G C) (p : Point S D P G C) (old new : Books (Artifact S D P G C) K) → is_act p ≡ true → LeaveBook k old new (IsLeftBy g f s h p) → LeaveBook k old new (IsLeftByActs g f s h)
+    left_by_act h p old new own leaves = book_weaker k (IsLeftBy g f s h p) (IsLeftByActs g f s h) (λ read left. left_act h p read own left) old new leaves
 
-  -- so is the record
-  pub left_by_none : (h : History S D P G C) (old new : List Call) → LeavesOnly old new (λ image. Reads image (map f.artifact (record_of h))) → LeavesOnly old new (IsLeftByActs g f s h)
-  left_by_none h old new leaves = weaker (IsLeftByActs g f s h) leaves (λ image reads. ([], h, none_acted, refl, reads))
+    -- so is the record
+    pub left_by_none : (h : History S D P G C) (old new : Books (Artifact S D P G C) K) → LeaveBook k old new (λ read. read ≡ map f.artifact (record_of h)) → LeaveBook k old new (IsLeftByActs g f s h)
+    left_by_none h old new leaves = book_weaker k (λ read. read ≡ map f.artifact (record_of h)) (IsLeftByActs g f s h) (λ read is. ([], h, none_acted, refl, is)) old new leaves
 
-  -- what acts behind a point of the node's own leave is what its acts leave
-  pub left_behind : (h : History S D P G C) (p : Point S D P G C) (old new : List Call) → is_act p ≡ true → Allowed g f s h p → LeavesOnly old new (IsLeftByActs g f s (p ∷ h)) → LeavesOnly old new (IsLeftByActs g f s h)
-  left_behind h p old new own may leaves = weaker (IsLeftByActs g f s h) leaves (λ image left. (p ∷ left.0, left.1, more_acted p left.0 own left.2, (may, left.3), left.4))
+    -- what acts behind a point of the node's own leave is what its acts leave
+    pub left_behind : (h : History S D P G C) (p : Point S D P G C) (old new : Books (Artifact S D P G C) K) → is_act p ≡ true → Allowed g f s h p → LeaveBook k old new (IsLeftByActs g f s (p ∷ h)) → LeaveBook k old new (IsLeftByActs g f s h)
+    left_behind h p old new own may leaves = book_weaker k (IsLeftByActs g f s (p ∷ h)) (IsLeftByActs g f s h)
+        (λ read left. (p ∷ left.0, left.1, more_acted p left.0 own left.2, (may, left.3), left.4)) old new leaves
 
 module _ {S L D P G C K : Type 0} (g : Ghosts S D P G C) (e : elector.Ghosts L S D P G C) (k : disk.Ghosts K) (f : Formats S D P G C) (s : Setup S D C) where
   nothing_acted : (node : Core S L D K P G C) (h : History S D P G C) (actions : List (Action S D P G C)) → CoreKeeps g e k f s node h → HasActed g e k f s node h [] h actions actions
@@ -134,30 +137,30 @@ module _ {S L D P G C K : Type 0} (g : Ghosts S D P G C) (e : elector.Ghosts L S
     -- one point was taken
     pub did_one : (old new : Core S L D K P G C) (h : History S D P G C) (p : Point S D P G C) (before after : List (Action S D P G C)) (answer : Result Acted NodeFault) → is_act p ≡ true
         → IfOk answer (λ done. done ≡ came.Did) → OnOk answer (IsTaken g e k f s new h p before after)
-        → (k.keeps → LeavesOnly (k.calls (disk_of old)) (k.calls (disk_of new)) (IsLeftBy g f s h p)) → WasTried g e k f s is_kind Done old new h before after answer
+        → (k.keeps → LeaveBook k (book_of old) (book_of new) (IsLeftBy g f s h p)) → WasTried g e k f s is_kind Done old new h before after answer
     did_one old new h p before after (Ok done) own did taken leaves = record {
       ok = subst (λ (a : Acted). ComesTo g e k f s is_kind Done new h before after a) (sym did) (record { points = p ∷ []; end = p ∷ h; acted = one_acted new h p before after own taken; some = is_some_list p [] });
-      any_moment = λ it. left_by_act g f s h p (k.calls (disk_of old)) (k.calls (disk_of new)) own (leaves it);
+      any_moment = λ it. left_by_act g f s k h p (book_of old) (book_of new) own (leaves it);
     }
     did_one old new h p before after (Err why) own did taken leaves = record {
       ok = tt;
-      any_moment = λ it. left_by_act g f s h p (k.calls (disk_of old)) (k.calls (disk_of new)) own (leaves it);
+      any_moment = λ it. left_by_act g f s k h p (book_of old) (book_of new) own (leaves it);
     }
 
     -- nothing was left to be done
     pub did_nothing : (old new : Core S L D K P G C) (h : History S D P G C) (actions : List (Action S D P G C)) → CoreKeeps g e k f s new h → Done h
-        → (k.keeps → LeavesOnly (k.calls (disk_of old)) (k.calls (disk_of new)) (λ image. Reads image (map f.artifact (record_of h))))
+        → (k.keeps → LeaveBook k (book_of old) (book_of new) (λ read. read ≡ map f.artifact (record_of h)))
         → WasTried g e k f s is_kind Done old new h actions actions (Ok came.Nothing)
     did_nothing old new h actions keeps none leaves = record {
       ok = record { points = []; end = h; are_kind = All-nil (λ (q : Point S D P G C). is_kind q ≡ true); acted = nothing_acted new h actions keeps; none = none };
-      any_moment = λ it. left_by_none g f s h (k.calls (disk_of old)) (k.calls (disk_of new)) (leaves it);
+      any_moment = λ it. left_by_none g f s k h (book_of old) (book_of new) (leaves it);
     }
 
     -- it failed before anything was asked of the disk
     pub did_fail : (old new : Core S L D K P G C) (h : History S D P G C) (before after : List (Action S D P G C)) (why : NodeFault)
-        → (k.keeps → LeavesOnly (k.calls (disk_of old)) (k.calls (disk_of new)) (λ image. Reads image (map f.artifact (record_of h))))
+        → (k.keeps → LeaveBook k (book_of old) (book_of new) (λ read. read ≡ map f.artifact (record_of h)))
         → WasTried g e k f s is_kind Done old new h before after (Err why)
-    did_fail old new h before after why leaves = record { ok = tt; any_moment = λ it. left_by_none g f s h (k.calls (disk_of old)) (k.calls (disk_of new)) (leaves it) }
+    did_fail old new h before after why leaves = record { ok = tt; any_moment = λ it. left_by_none g f s k h (book_of old) (book_of new) (leaves it) }
 
     came_behind : (new : Core S L D K P G C) (h : History S D P G C) (p : Point S D P G C) (before after : List (Action S D P G C)) (acted : Acted)
         → is_act p ≡ true → Allowed g f s h p → deeds_of g f s h p ≡ [] → is_kind p ≡ true
@@ -175,7 +178,7 @@ module _ {S L D P G C K : Type 0} (g : Ghosts S D P G C) (e : elector.Ghosts L S
 
     -- nothing was left to be done behind a point of the kind that hands out nothing
     pub nothing_behind : (old new : Core S L D K P G C) (h : History S D P G C) (p : Point S D P G C) (actions : List (Action S D P G C)) → is_act p ≡ true → deeds_of g f s h p ≡ [] → is_kind p ≡ true
-        → CoreKeeps g e k f s new (p ∷ h) → Done (p ∷ h) → (k.keeps → LeavesOnly (k.calls (disk_of old)) (k.calls (disk_of new)) (λ image. Reads image (map f.artifact (record_of h))))
+        → CoreKeeps g e k f s new (p ∷ h) → Done (p ∷ h) → (k.keeps → LeaveBook k (book_of old) (book_of new) (λ read. read ≡ map f.artifact (record_of h)))
         → WasTried g e k f s is_kind Done old new h actions actions (Ok came.Nothing)
     nothing_behind old new h p actions own silent kind keeps none leaves = record {
       ok = record {
@@ -185,30 +188,30 @@ module _ {S L D P G C K : Type 0} (g : Ghosts S D P G C) (e : elector.Ghosts L S
         acted = more_acts new h p [] (p ∷ h) actions actions own keeps.allowed.0 silent (nothing_acted new (p ∷ h) actions keeps);
         none = none;
       };
-      any_moment = λ it. left_by_none g f s h (k.calls (disk_of old)) (k.calls (disk_of new)) (leaves it);
+      any_moment = λ it. left_by_none g f s k h (book_of old) (book_of new) (leaves it);
     }
 
     -- an act that is tried behind a point of its kind that hands out nothing
     pub tried_behind : (old mid new : Core S L D K P G C) (h : History S D P G C) (p : Point S D P G C) (before after : List (Action S D P G C)) (answer : Result Acted NodeFault)
-        → is_act p ≡ true → Allowed g f s h p → deeds_of g f s h p ≡ [] → is_kind p ≡ true → disk_of mid ≡ disk_of old
+        → is_act p ≡ true → Allowed g f s h p → deeds_of g f s h p ≡ [] → is_kind p ≡ true → book_of mid ≡ book_of old
         → WasTried g e k f s is_none Done mid new (p ∷ h) before after answer → WasTried g e k f s is_kind Done old new h before after answer
     tried_behind old mid new h p before after (Ok acted) own may silent kind same tried = record {
       ok = came_behind new h p before after acted own may silent kind tried.ok;
-      any_moment = λ it. left_behind g f s h p (k.calls (disk_of old)) (k.calls (disk_of new)) own may
-          (subst (λ (on : K). LeavesOnly (k.calls on) (k.calls (disk_of new)) (IsLeftByActs g f s (p ∷ h))) same (tried.any_moment it));
+      any_moment = λ it. left_behind g f s k h p (book_of old) (book_of new) own may
+          (subst (λ (b : Books (Artifact S D P G C) K). LeaveBook k b (book_of new) (IsLeftByActs g f s (p ∷ h))) same (tried.any_moment it));
     }
     tried_behind old mid new h p before after (Err why) own may silent kind same tried = record {
       ok = tt;
-      any_moment = λ it. left_behind g f s h p (k.calls (disk_of old)) (k.calls (disk_of new)) own may
-          (subst (λ (on : K). LeavesOnly (k.calls on) (k.calls (disk_of new)) (IsLeftByActs g f s (p ∷ h))) same (tried.any_moment it));
+      any_moment = λ it. left_behind g f s k h p (book_of old) (book_of new) own may
+          (subst (λ (b : Books (Artifact S D P G C) K). LeaveBook k b (book_of new) (IsLeftByActs g f s (p ∷ h))) same (tried.any_moment it));
     }
 
     -- the same without such a point
-    pub tried_here : (old mid new : Core S L D K P G C) (h : History S D P G C) (before after : List (Action S D P G C)) (answer : Result Acted NodeFault) → disk_of mid ≡ disk_of old
+    pub tried_here : (old mid new : Core S L D K P G C) (h : History S D P G C) (before after : List (Action S D P G C)) (answer : Result Acted NodeFault) → book_of mid ≡ book_of old
         → WasTried g e k f s is_none Done mid new h before after answer → WasTried g e k f s is_kind Done old new h before after answer
     tried_here old mid new h before after answer same tried = record {
       ok = by answer tried.ok;
-      any_moment = λ it. subst (λ (on : K). LeavesOnly (k.calls on) (k.calls (disk_of new)) (IsLeftByActs g f s h)) same (tried.any_moment it);
+      any_moment = λ it. subst (λ (b : Books (Artifact S D P G C) K). LeaveBook k b (book_of new) (IsLeftByActs g f s h)) same (tried.any_moment it);
     }
       where
         by : (answer : Result Acted NodeFault) → IfOk answer (ComesTo g e k f s is_none Done new h before after) → IfOk answer (ComesTo g e k f s is_kind Done new h before after)
@@ -249,18 +252,18 @@ module _ {S L D P G C K : Type 0} (g : Ghosts S D P G C) (e : elector.Ghosts L S
 
 -- ---- disks
 
--- a call that asked something of the disk once, and failed in it
-pub failed_once : {K A B : Type 0} (k : disk.Ghosts K) (old new : K) (first : Result A NodeFault) (why : NodeFault) → first ≡ Err why → (IsErrOf first step_fault.Device → k.failed new ≡ counted false (k.failed old))
-    → IfErr first (λ w. w ≢ step_fault.Device → k.failed new ≡ k.failed old) → (¬ IsErrOf first step_fault.Failed) → TellsOfDisk {A = B} k old new (Err why)
+-- a call that asked something of them once, and failed in it
+pub failed_once : {K A B : Type 0} (k : disk.Ghosts K) (old new : Disks K) (first : Result A NodeFault) (why : NodeFault) → first ≡ Err why → (IsErrOf first step_fault.Device → HasFailed k old new)
+    → IfErr first (λ w. w ≢ step_fault.Device → HasNotFailed k old new) → (¬ IsErrOf first step_fault.Failed) → TellsOfDisk {A = B} k old new (Err why)
 failed_once {K} {A} {B} k old new first why is device other not_failed = record {
   device = λ at. let same : why ≡ step_fault.Device = cc at in device (subst (λ (w : NodeFault). first ≡ Err w) same is);
-  no_device = subst (λ (r : Result A NodeFault). IfErr r (λ w. w ≢ step_fault.Device → k.failed new ≡ k.failed old)) is other;
+  no_device = subst (λ (r : Result A NodeFault). IfErr r (λ w. w ≢ step_fault.Device → HasNotFailed k old new)) is other;
   no_fault = tt;
   not_failed = λ at. let same : why ≡ step_fault.Failed = cc at in not_failed (subst (λ (w : NodeFault). first ≡ Err w) same is);
 }
 
--- one that asked something of it once, which came out well
-pub asked_well : {K A : Type 0} (k : disk.Ghosts K) (old new : K) (answer : Result A NodeFault) → k.failed new ≡ k.failed old → IfErr answer (λ why. why ≡ step_fault.Memory) → TellsOfDisk k old new answer
+-- one that asked something of them once, which came out well
+pub asked_well : {K A : Type 0} (k : disk.Ghosts K) (old new : Disks K) (answer : Result A NodeFault) → HasNotFailed k old new → IfErr answer (λ why. why ≡ step_fault.Memory) → TellsOfDisk k old new answer
 asked_well k old new (Ok x) same memory = record { device = λ is. absurd (cc is); no_device = tt; no_fault = same; not_failed = λ is. absurd (cc is) }
 asked_well k old new (Err why) same memory = record { device = λ is. absurd (cc (is, memory)); no_device = λ other. same; no_fault = tt; not_failed = λ is. absurd (cc (is, memory)) }
 
@@ -447,7 +450,7 @@ module _ {S L D P G C K : Type 0} (g : Ghosts S D P G C) (e : elector.Ghosts L S
       (λ known looks. still_stands g e k f s node voter h keeps looks)
 
   -- an act that is tried behind it
-  pub tried_after_poll : (Done : History S D P G C → Type 0) (old mid new : Core S L D K P G C) (h : History S D P G C) (before after : List (Action S D P G C)) (answer : Result Acted NodeFault) → is_begun h ≡ true → disk_of mid ≡ disk_of old
+  pub tried_after_poll : (Done : History S D P G C → Type 0) (old mid new : Core S L D K P G C) (h : History S D P G C) (before after : List (Action S D P G C)) (answer : Result Acted NodeFault) → is_begun h ≡ true → book_of mid ≡ book_of old
       → WasTried g e k f s is_none Done mid new (after_poll s h) before after answer → WasTried g e k f s is_poll Done old new h before after answer
   tried_after_poll Done old mid new h before after answer begun same = after_poll_by g f s h (λ (at : History S D P G C). WasTried g e k f s is_none Done mid new at before after answer → WasTried g e k f s is_poll Done old new h before after answer)
       (λ lacks tried. tried_behind g e k f s is_poll Done old mid new h Polls before after answer refl (record { order = begun; due = lacks; fits = tt; readable = tt }) refl refl same tried)
@@ -455,7 +458,7 @@ module _ {S L D P G C K : Type 0} (g : Ghosts S D P G C) (e : elector.Ghosts L S
 
   -- nothing was left to be done behind it
   pub nothing_after_poll : (Done : History S D P G C → Type 0) (old new : Core S L D K P G C) (h : History S D P G C) (actions : List (Action S D P G C)) → CoreKeeps g e k f s new (after_poll s h) → Done (after_poll s h)
-      → (k.keeps → LeavesOnly (k.calls (disk_of old)) (k.calls (disk_of new)) (λ image. Reads image (map f.artifact (record_of h)))) → WasTried g e k f s is_poll Done old new h actions actions (Ok came.Nothing)
+      → (k.keeps → LeaveBook k (book_of old) (book_of new) (λ read. read ≡ map f.artifact (record_of h))) → WasTried g e k f s is_poll Done old new h actions actions (Ok came.Nothing)
   nothing_after_poll Done old new h actions keeps none leaves = after_poll_by g f s h (λ (at : History S D P G C). CoreKeeps g e k f s new at → Done at → WasTried g e k f s is_poll Done old new h actions actions (Ok came.Nothing))
       (λ lacks stands nothing. nothing_behind g e k f s is_poll Done old new h Polls actions refl refl refl stands nothing leaves)
       (λ known stands nothing. did_nothing g e k f s is_poll Done old new h actions stands nothing leaves)

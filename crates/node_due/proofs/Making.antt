@@ -29,9 +29,9 @@ use Rattle.simplex_resolver.specs.declared.state.State as resolving
 use Rattle.simplex_resolver.specs.Keeps as repairing
 use Rattle.simplex_resolver.specs.RepairHistory.{item_of}
 use Rattle.journal_single.specs.declared.disk.Disk as disk
-use Rattle.journal_single.specs.Disk.{Call, LeavesOnly}
-use Rattle.journal_single.specs.Moments.{weaker}
-use Rattle.journal_single.specs.Record.{Reads, IsWithOrWithout}
+use Rattle.journal_books.specs.declared.books.Books.{Books}
+use Rattle.journal_books.specs.Books.{IsWithOrWithout, LeaveBook}
+use Rattle.journal_books.specs.BooksLaws.{book_weaker}
 use Rattle.node_record.specs.declared.ledger.Ledger.{Ledger}
 use Rattle.node_record.specs.declared.tables.Tables.{Tables}
 use Rattle.node_record.specs.Ledger.{KeepsRecord}
@@ -55,7 +55,7 @@ use Rattle.node_requests.specs.declared.acted.Acted.TheVariants as came
 use Rattle.node_core.specs.declared.node_state.Core.{Core}
 use Rattle.node_due.specs.Acting.{ComesTo, IsLeftByActs, WasTried}
 use Rattle.node_due.specs.Ahead.{MayCome, VotesAreAhead, VotesGoAhead}
-use Rattle.node_core.specs.Keeps.{CoreKeeps, disk_of}
+use Rattle.node_core.specs.Keeps.{CoreKeeps, book_of}
 use Rattle.node_due.specs.NoneDue.{NoConstructionToMake}
 use Rattle.node_core.specs.Taking.{IsLeftBy, IsTaken}
 use Rattle.node_core.specs.Standing.{rises, room_of}
@@ -80,11 +80,11 @@ module _ {S D P G C : Type 0} (g : Ghosts S D P G C) (f : Formats S D P G C) (s 
       fits.follows
 
   -- where a crash leaves the record with it or without it, it leaves what taking the construction may leave
-  pub left_by_made : (view : ℕ) (kind : Kind) (batch : Batch (Certificate S D P G C)) (x : Certificate S D P G C) (artifact : Artifact S D P G C) (old new : List Call) → batch.certificate ≡ Some x → artifact ≡ certificate_artifact x
-      → Allowed g f s h (Constructs view kind batch) → LeavesOnly old new (IsWithOrWithout (map f.artifact (record_of h)) (f.artifact artifact)) → LeavesOnly old new (IsLeftBy g f s h (Constructs view kind batch))
-  left_by_made view kind batch x artifact old new is copy may leaves =
+  pub left_by_made : {K : Type 0} (k : disk.Ghosts K) (view : ℕ) (kind : Kind) (batch : Batch (Certificate S D P G C)) (x : Certificate S D P G C) (artifact : Artifact S D P G C) (old new : Books (Artifact S D P G C) K) → batch.certificate ≡ Some x → artifact ≡ certificate_artifact x
+      → Allowed g f s h (Constructs view kind batch) → LeaveBook k old new (IsWithOrWithout (map f.artifact (record_of h)) (f.artifact artifact)) → LeaveBook k old new (IsLeftBy g f s h (Constructs view kind batch))
+  left_by_made k view kind batch x artifact old new is copy may leaves =
       let recorded : option_map certificate_artifact batch.certificate ≡ Some artifact = ap (λ (o : Option (Certificate S D P G C)). option_map certificate_artifact o) is ∙ ap Some (sym copy) in
-      left_by g f s h (Constructs view kind batch) artifact old new recorded may leaves
+      left_by g f s k h (Constructs view kind batch) artifact old new recorded may leaves
 
   -- what has a spelling is what the construction adds
   pub adds_spelled : (view : ℕ) (kind : Kind) (batch : Batch (Certificate S D P G C)) (x : Certificate S D P G C) (artifact : Artifact S D P G C) (Spelled : Artifact S D P G C → Type 0) → batch.certificate ≡ Some x → artifact ≡ certificate_artifact x
@@ -234,15 +234,15 @@ module _ {S L D P G C K : Type 0} (g : Ghosts S D P G C) (e : elector.Ghosts L S
         )
 
 module _ {S L D P G C K : Type 0} (g : Ghosts S D P G C) (e : elector.Ghosts L S D P G C) (k : disk.Ghosts K) (f : Formats S D P G C) (s : Setup S D C) (is_kind : Point S D P G C → Bool) (Done : History S D P G C → Type 0) (old new : Core S L D K P G C) (h : History S D P G C) where
-  left_by_act : (p : Point S D P G C) (image : List ℕ) → is_act p ≡ true → IsLeftBy g f s h p image → IsLeftByActs g f s h image
-  left_by_act p image act left = ⊎_elim
+  left_by_act : (p : Point S D P G C) (read : List (List ℕ)) → is_act p ≡ true → IsLeftBy g f s h p read → IsLeftByActs g f s h read
+  left_by_act p read act left = ⊎_elim
       (λ before. ([], h, All-nil (λ (q : Point S D P G C). is_act q ≡ true), refl, before))
       (λ behind. (p ∷ [], p ∷ h, All-cons (λ (q : Point S D P G C). is_act q ≡ true) p [] act (All-nil (λ (q : Point S D P G C). is_act q ≡ true)), (behind.0, refl), behind.1))
       left
 
   -- one point that is due was taken
   pub tried_one : (p : Point S D P G C) (before after : List (Action S D P G C)) (answer : Result Acted NodeFault) → is_act p ≡ true → IfOk answer (λ done. done ≡ came.Did) → OnOk answer (IsTaken g e k f s new h p before after)
-      → (k.keeps → LeavesOnly (k.calls (disk_of old)) (k.calls (disk_of new)) (IsLeftBy g f s h p)) → WasTried g e k f s is_kind Done old new h before after answer
+      → (k.keeps → LeaveBook k (book_of old) (book_of new) (IsLeftBy g f s h p)) → WasTried g e k f s is_kind Done old new h before after answer
   tried_one p before after (Ok done) act did taken leaves = record {
     ok = subst (λ (a : Acted). ComesTo g e k f s is_kind Done new h before after a) (sym did) (record {
       points = p ∷ [];
@@ -255,12 +255,12 @@ module _ {S L D P G C K : Type 0} (g : Ghosts S D P G C) (e : elector.Ghosts L S
       };
       some = is_some_list p [];
     });
-    any_moment = λ it. weaker (IsLeftByActs g f s h) (leaves it) (λ image left. left_by_act p image act left);
+    any_moment = λ it. book_weaker k (IsLeftBy g f s h p) (IsLeftByActs g f s h) (λ read left. left_by_act p read act left) (book_of old) (book_of new) (leaves it);
   }
-  tried_one p before after (Err why) act did taken leaves = record { ok = tt; any_moment = λ it. weaker (IsLeftByActs g f s h) (leaves it) (λ image left. left_by_act p image act left) }
+  tried_one p before after (Err why) act did taken leaves = record { ok = tt; any_moment = λ it. book_weaker k (IsLeftBy g f s h p) (IsLeftByActs g f s h) (λ read left. left_by_act p read act left) (book_of old) (book_of new) (leaves it) }
 
   -- nothing was left to be done
-  pub tried_none : (actions : List (Action S D P G C)) → Done h → CoreKeeps g e k f s new h → (k.keeps → LeavesOnly (k.calls (disk_of old)) (k.calls (disk_of new)) (λ image. Reads image (map f.artifact (record_of h))))
+  pub tried_none : (actions : List (Action S D P G C)) → Done h → CoreKeeps g e k f s new h → (k.keeps → LeaveBook k (book_of old) (book_of new) (λ read. read ≡ map f.artifact (record_of h)))
       → WasTried g e k f s is_kind Done old new h actions actions (Ok came.Nothing)
   tried_none actions done keeps leaves = record {
     ok = record {
@@ -270,13 +270,13 @@ module _ {S L D P G C K : Type 0} (g : Ghosts S D P G C) (e : elector.Ghosts L S
       acted = record { own = All-nil (λ (q : Point S D P G C). is_act q ≡ true); goes = refl; keeps = keeps; acts = nothing_more f actions };
       none = done;
     };
-    any_moment = λ it. weaker (IsLeftByActs g f s h) (leaves it) (λ image read. ([], h, All-nil (λ (q : Point S D P G C). is_act q ≡ true), refl, read));
+    any_moment = λ it. book_weaker k (λ read. read ≡ map f.artifact (record_of h)) (IsLeftByActs g f s h) (λ read is. ([], h, All-nil (λ (q : Point S D P G C). is_act q ≡ true), refl, is)) (book_of old) (book_of new) (leaves it);
   }
 
   -- it failed before anything was asked of the disk
-  pub tried_failed : (before after : List (Action S D P G C)) (why : NodeFault) → (k.keeps → LeavesOnly (k.calls (disk_of old)) (k.calls (disk_of new)) (λ image. Reads image (map f.artifact (record_of h))))
+  pub tried_failed : (before after : List (Action S D P G C)) (why : NodeFault) → (k.keeps → LeaveBook k (book_of old) (book_of new) (λ read. read ≡ map f.artifact (record_of h)))
       → WasTried g e k f s is_kind Done old new h before after (Err why)
   tried_failed before after why leaves = record {
     ok = tt;
-    any_moment = λ it. weaker (IsLeftByActs g f s h) (leaves it) (λ image read. ([], h, All-nil (λ (q : Point S D P G C). is_act q ≡ true), refl, read));
+    any_moment = λ it. book_weaker k (λ read. read ≡ map f.artifact (record_of h)) (IsLeftByActs g f s h) (λ read is. ([], h, All-nil (λ (q : Point S D P G C). is_act q ≡ true), refl, is)) (book_of old) (book_of new) (leaves it);
   }

@@ -8,9 +8,8 @@ use Rattle.voter_history.specs.declared.timeout_reason.TimeoutReason.TheVariants
 use Rattle.types_terms.specs.declared.elector.Elector as elector
 use Rattle.simplex_resolver.specs.declared.ask.Ask.{Ask}
 use Rattle.journal_single.specs.declared.disk.Disk as disk
-use Rattle.journal_single.specs.Disk.{LeavesOnly}
-use Rattle.journal_single.specs.Moments.{and_then, weaker}
-use Rattle.journal_single.specs.Record.{Reads}
+use Rattle.journal_books.specs.Books.{LeaveBook}
+use Rattle.journal_books.specs.BooksLaws.{book_then, book_weaker}
 use Rattle.simplex_member.specs.declared.action.Action.{Action}
 use Rattle.simplex_member.specs.declared.fault.NodeFault.{NodeFault}
 use Rattle.simplex_member.specs.Allowed.{AskIsDue, LatchIsDue}
@@ -28,7 +27,7 @@ use Rattle.node_requests.specs.declared.acted.Acted.{Acted}
 use Rattle.node_requests.specs.declared.acted.Acted.TheVariants as came
 use Rattle.node_core.specs.declared.node_state.Core.{Core}
 use Rattle.node_due.specs.Acting.{ComesTo, DidNothing, DidSomething, HasActed, HasSettled, IsLeftByActs, WasSettled, WasTried}
-use Rattle.node_core.specs.Keeps.{CoreKeeps, disk_of}
+use Rattle.node_core.specs.Keeps.{CoreKeeps, book_of}
 use Rattle.node_due.specs.NoneDue.{NoVoteToCast, NothingByVotes, NothingMoreToAsk, NothingToAskOnProposals}
 use Rattle.node_due.proofs.Lasting.{IsPartOf, Lasts}
 use Rattle.node_due.specs.ActsBehind.{are_acts, deeds_behind, goes_behind, last_behind}
@@ -37,8 +36,8 @@ use Rattle.node_due.specs.ActsBehind.{are_acts, deeds_behind, goes_behind, last_
 
 module _ {S D P G C : Type 0} (g : Ghosts S D P G C) (f : Formats S D P G C) (s : Setup S D C) where
   -- what acts leave behind acts is left by acts
-  pub left_behind : (h mid : History S D P G C) (xs : List (Point S D P G C)) → AreActs xs → Goes g f s h xs mid → (image : List ℕ) → IsLeftByActs g f s mid image → IsLeftByActs g f s h image
-  left_behind h mid xs own goes image left = (xs ++ left.0, left.1, are_acts g f s xs left.0 own left.2, goes_behind g f s h mid left.1 xs left.0 goes left.3, left.4)
+  pub left_behind : (h mid : History S D P G C) (xs : List (Point S D P G C)) → AreActs xs → Goes g f s h xs mid → (read : List (List ℕ)) → IsLeftByActs g f s mid read → IsLeftByActs g f s h read
+  left_behind h mid xs own goes read left = (xs ++ left.0, left.1, are_acts g f s xs left.0 own left.2, goes_behind g f s h mid left.1 xs left.0 goes left.3, left.4)
 
   -- what holds stays so behind points of a kind behind which it does
   pub lasts_behind : (is_kind : Point S D P G C → Bool) (Done : History S D P G C → Type 0) → Lasts is_kind Done → (h end : History S D P G C) (points : List (Point S D P G C)) → All (λ p. is_kind p ≡ true) points → Goes g f s h points end → Done h → Done end
@@ -62,9 +61,9 @@ module _ {S L D P G C K : Type 0} (g : Ghosts S D P G C) (e : elector.Ghosts L S
 
   -- what a crash leaves through both is left by acts from the first on
   left_through : (old mid new : Core S L D K P G C) (h at : History S D P G C) (xs : List (Point S D P G C)) → AreActs xs → Goes g f s h xs at
-      → (k.keeps → LeavesOnly (k.calls (disk_of old)) (k.calls (disk_of mid)) (IsLeftByActs g f s h)) → (k.keeps → LeavesOnly (k.calls (disk_of mid)) (k.calls (disk_of new)) (IsLeftByActs g f s at))
-      → k.keeps → LeavesOnly (k.calls (disk_of old)) (k.calls (disk_of new)) (IsLeftByActs g f s h)
-  left_through old mid new h at xs own goes one other keeps = and_then (one keeps) (weaker (IsLeftByActs g f s h) (other keeps) (left_behind g f s h at xs own goes))
+      → (k.keeps → LeaveBook k (book_of old) (book_of mid) (IsLeftByActs g f s h)) → (k.keeps → LeaveBook k (book_of mid) (book_of new) (IsLeftByActs g f s at))
+      → k.keeps → LeaveBook k (book_of old) (book_of new) (IsLeftByActs g f s h)
+  left_through old mid new h at xs own goes one other keeps = book_then k (IsLeftByActs g f s h) (book_of old) (book_of mid) (book_of new) (one keeps) (book_weaker k (IsLeftByActs g f s at) (IsLeftByActs g f s h) (left_behind g f s h at xs own goes) (book_of mid) (book_of new) (other keeps))
 
   comes_any : {one both : Point S D P G C → Bool} {First Both : History S D P G C → Type 0} (old new : Core S L D K P G C) (h : History S D P G C) (before after : List (Action S D P G C)) (acted : Acted)
       → acted ≡ came.Did → WasTried g e k f s one First old new h before after (Ok acted) → WasTried g e k f s both Both old new h before after (Ok came.Did)
@@ -173,21 +172,21 @@ module _ {S L D P G C K : Type 0} (g : Ghosts S D P G C) (e : elector.Ghosts L S
   -- so many acts were done so far
   pub record ActsSoFar (old new : Core S L D K P G C) (h : History S D P G C) (count : ℕ) (before after : List (Action S D P G C)) : Type 0 where
     pub did : HasGone new h count before after
-    pub any_moment : k.keeps → LeavesOnly (k.calls (disk_of old)) (k.calls (disk_of new)) (IsLeftByActs g f s h)
+    pub any_moment : k.keeps → LeaveBook k (book_of old) (book_of new) (IsLeftByActs g f s h)
 
   -- at first none was
   pub none_acted : (node : Core S L D K P G C) (h : History S D P G C) (actions : List (Action S D P G C)) → CoreKeeps g e k f s node h
-      → (k.keeps → LeavesOnly (k.calls (disk_of node)) (k.calls (disk_of node)) (λ image. Reads image (map f.artifact (record_of h)))) → ActsSoFar node node h 0 actions actions
+      → (k.keeps → LeaveBook k (book_of node) (book_of node) (λ read. read ≡ map f.artifact (record_of h))) → ActsSoFar node node h 0 actions actions
   none_acted node h actions keeps rests = record {
     did = record { points = []; end = h; acted = record { own = All-nil (λ (p : Point S D P G C). is_act p ≡ true); goes = refl; keeps = keeps; acts = nothing_more f actions }; many = omega arith };
-    any_moment = λ it. weaker (IsLeftByActs g f s h) (rests it) (λ image reads. ([], h, All-nil (λ (p : Point S D P G C). is_act p ≡ true), refl, reads));
+    any_moment = λ it. book_weaker k (λ read. read ≡ map f.artifact (record_of h)) (IsLeftByActs g f s h) (λ read is. ([], h, All-nil (λ (p : Point S D P G C). is_act p ≡ true), refl, is)) (book_of node) (book_of node) (rests it);
   }
 
   module _ (old mid new : Core S L D K P G C) (h : History S D P G C) (count : ℕ) (before between after : List (Action S D P G C)) (far : ActsSoFar old mid h count before between) where
     so_far : HasActed g e k f s mid h far.did.points far.did.end before between
     so_far = far.did.acted
 
-    left_so_far : (k.keeps → LeavesOnly (k.calls (disk_of mid)) (k.calls (disk_of new)) (IsLeftByActs g f s far.did.end)) → k.keeps → LeavesOnly (k.calls (disk_of old)) (k.calls (disk_of new)) (IsLeftByActs g f s h)
+    left_so_far : (k.keeps → LeaveBook k (book_of mid) (book_of new) (IsLeftByActs g f s far.did.end)) → k.keeps → LeaveBook k (book_of old) (book_of new) (IsLeftByActs g f s h)
     left_so_far = left_through g e k f s old mid new h far.did.end far.did.points so_far.own so_far.goes far.any_moment
 
     did_more : DidSomething g e k f s new far.did.end between after → HasGone new h (count + 1) before after

@@ -10,9 +10,8 @@ use Rattle.voter_history.specs.History as views
 use Rattle.voter_history.specs.declared.timeout_reason.TimeoutReason.TheVariants as reason
 use Rattle.types_terms.specs.declared.elector.Elector as elector
 use Rattle.journal_single.specs.declared.disk.Disk as disk
-use Rattle.journal_single.specs.Disk.{LeavesOnly}
-use Rattle.journal_single.specs.Moments.{weaker}
-use Rattle.journal_single.specs.Record.{Reads}
+use Rattle.journal_books.specs.Books.{LeaveBook}
+use Rattle.journal_books.specs.BooksLaws.{book_weaker}
 use Rattle.simplex_state.specs.declared.state.State.{State}
 use Rattle.simplex_state.specs.State as voting
 use Rattle.simplex_resolver.specs.Keeps as repairing
@@ -45,7 +44,7 @@ use Rattle.node_requests.specs.Following.{FollowsLeader}
 use Rattle.node_requests.specs.Leading.{NamesLeader, NoLeaderToName}
 use Rattle.node_core.specs.declared.node_state.Core.{Core}
 use Rattle.node_due.specs.Acting.{ComesTo, HasActed, IsLeftByActs, WasSettled, WasTried}
-use Rattle.node_core.specs.Keeps.{CoreKeeps, disk_of}
+use Rattle.node_core.specs.Keeps.{CoreKeeps, book_of}
 use Rattle.node_due.specs.NoneDue.{NoLeaderToFollow}
 use Rattle.node_core.specs.Standing.{still-keeps}
 
@@ -95,10 +94,10 @@ module _ {S L D P G C K : Type 0} (g : Ghosts S D P G C) (e : elector.Ghosts L S
         ledger = subst (λ (xs : List (Artifact S D P G C)). KeepsRecord k f.artifact (owner_of s) node.ledger xs) (sym (beside.no_record h)) stands.ledger;
       })
 
-  -- while nothing is asked of its disk, a crash leaves the record that a ledger holds
+  -- while nothing is asked of its disks, a crash leaves the record that a ledger holds
   abbrev LedgerRests : Type 0
   LedgerRests = (owner : Owner) (ledger : Ledger S D K P G C) (xs : List (Artifact S D P G C)) → KeepsRecord k f.artifact owner ledger xs
-      → k.keeps → LeavesOnly (k.calls (ledgers.disk_of ledger)) (k.calls (ledgers.disk_of ledger)) (λ image. Reads image (map f.artifact xs))
+      → k.keeps → LeaveBook k (ledgers.book_of ledger) (ledgers.book_of ledger) (λ read. read ≡ map f.artifact xs)
 
 module _ {S L D P G C : Type 0} (g : Ghosts S D P G C) (e : elector.Ghosts L S D P G C) (f : Formats S D P G C) (s : Setup S D C) where
   -- a fetch says nothing of the voter
@@ -182,10 +181,10 @@ module _ {S L D P G C K : Type 0} {g : Ghosts S D P G C} {e : elector.Ghosts L S
   }
 
   -- the record is one that acts of the node's own may leave: none
-  rests : LedgerRests g e k f s → k.keeps → LeavesOnly (k.calls (disk_of node)) (k.calls (disk_of node)) (IsLeftByActs g f s h)
+  rests : LedgerRests g e k f s → k.keeps → LeaveBook k (book_of node) (book_of node) (IsLeftByActs g f s h)
   rests law keeps =
-      weaker (IsLeftByActs g f s h) (law (owner_of s) node.ledger (record_of h) kept.ledger keeps)
-      (λ image reads. ([], h, All-nil (λ (p : Point S D P G C). is_act p ≡ true), refl, reads))
+      book_weaker k (λ read. read ≡ map f.artifact (record_of h)) (IsLeftByActs g f s h)
+      (λ read is. ([], h, All-nil (λ (p : Point S D P G C). is_act p ≡ true), refl, is)) (book_of node) (book_of node) (law (owner_of s) node.ledger (record_of h) kept.ledger keeps)
 
   -- an act that asks was tried
   pub was_asked : {is_kind : Point S D P G C → Bool} {Done : History S D P G C → Type 0} {before after : List (Action S D P G C)} {answer : Result Acted NodeFault} (voter : State S L D P G C) (tables : Tables S D P G C)

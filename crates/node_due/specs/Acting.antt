@@ -6,7 +6,7 @@ use Rattle.std.specs.Prelude.{◌≡◌, ◌≢◌, ◌++◌, ℕ, Bool, true, L
 use Rattle.types_core.specs.declared.scheme.Scheme.{Ghosts}
 use Rattle.types_terms.specs.declared.elector.Elector as elector
 use Rattle.journal_single.specs.declared.disk.Disk as disk
-use Rattle.journal_single.specs.Disk.{LeavesOnly}
+use Rattle.journal_books.specs.Books.{LeaveBook}
 use Rattle.simplex_member.specs.declared.action.Action.{Action}
 use Rattle.simplex_member.specs.declared.fault.NodeFault.{NodeFault}
 use Rattle.simplex_member.specs.Deeds.{Deed, all_deeds}
@@ -18,12 +18,12 @@ use Rattle.node_outbox.specs.Handing.{AddsDeeds}
 use Rattle.node_requests.specs.declared.acted.Acted.{Acted}
 use Rattle.node_requests.specs.declared.acted.Acted.TheVariants as came
 use Rattle.node_core.specs.declared.node_state.Core.{Core}
-use Rattle.node_core.specs.Keeps.{CoreKeeps, disk_of}
+use Rattle.node_core.specs.Keeps.{CoreKeeps, book_of}
 
 module _ {S D P G C : Type 0} (g : Ghosts S D P G C) (f : Formats S D P G C) (s : Setup S D C) where
-  -- an image reads as what acts of the node's own may leave: the record at a point of theirs
-  abbrev pub IsLeftByActs : History S D P G C → List ℕ → Type 0
-  IsLeftByActs h image = (points : List (Point S D P G C)) × (end : History S D P G C) × AreActs points × Goes g f s h points end × ReadsAs g f s image end
+  -- what is read is what acts of the node's own may leave: the record at a point of theirs
+  abbrev pub IsLeftByActs : History S D P G C → List (List ℕ) → Type 0
+  IsLeftByActs h read = (points : List (Point S D P G C)) × (end : History S D P G C) × AreActs points × Goes g f s h points end × ReadsAs g f s read end
 
 module _ {S L D P G C K : Type 0} (g : Ghosts S D P G C) (e : elector.Ghosts L S D P G C) (k : disk.Ghosts K) (f : Formats S D P G C) (s : Setup S D C) where
   -- these points of the node's own were gone through, each allowed behind those before it: the node stands at their end, and what they
@@ -57,7 +57,7 @@ module _ {S L D P G C K : Type 0} (g : Ghosts S D P G C) (e : elector.Ghosts L S
   -- an act was tried: what came of it, and what a crash at any moment leaves
   pub record WasTried (is_kind : Point S D P G C → Bool) (Done : History S D P G C → Type 0) (old new : Core S L D K P G C) (h : History S D P G C) (before after : List (Action S D P G C)) (answer : Result Acted NodeFault) : Type 0 where
     pub ok : IfOk answer (ComesTo is_kind Done new h before after)
-    pub any_moment : k.keeps → LeavesOnly (k.calls (disk_of old)) (k.calls (disk_of new)) (IsLeftByActs g f s h)
+    pub any_moment : k.keeps → LeaveBook k (book_of old) (book_of new) (IsLeftByActs g f s h)
 
   -- all that was due was done, and when the node wants to be told the time is the last that is handed out
   pub record HasSettled (new : Core S L D K P G C) (h : History S D P G C) (before after : List (Action S D P G C)) : Type 0 where
@@ -74,4 +74,4 @@ module _ {S L D P G C K : Type 0} (g : Ghosts S D P G C) (e : elector.Ghosts L S
   -- the node was to settle
   pub record WasSettled {A : Type 0} (old new : Core S L D K P G C) (h : History S D P G C) (before after : List (Action S D P G C)) (answer : Result A NodeFault) : Type 0 where
     pub ok : OnOk answer (HasSettled new h before after)
-    pub any_moment : k.keeps → LeavesOnly (k.calls (disk_of old)) (k.calls (disk_of new)) (IsLeftByActs g f s h)
+    pub any_moment : k.keeps → LeaveBook k (book_of old) (book_of new) (IsLeftByActs g f s h)

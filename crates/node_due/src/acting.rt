@@ -3,7 +3,7 @@
 ghost use Rattle.node_requests.specs.Asking.{is_poll, is_none, is_silent};
 ghost use Rattle.simplex_member.specs.Member.{NoneDue};
 ghost use Rattle.node_due.specs.Acting.{WasSettled, WasTried};
-ghost use Rattle.node_core.specs.Keeps.{AtOwn, disk_of};
+ghost use Rattle.node_core.specs.Keeps.{AtOwn, disks_of};
 ghost use Rattle.node_due.specs.NoneDue.{NoVoteToCast, NothingByVotes, NothingMoreToAsk, NothingToAskOnProposals};
 ghost use Rattle.node_core.specs.Telling.{TellsOfDisk};
 
@@ -28,13 +28,14 @@ use voter_laws::a_latch_changes_nothing_due;
 /// # Errors
 ///
 /// [`NodeFault::Memory`] and [`NodeFault::Device`].
+#[tactic(auto, using(journal_books::specs::BooksLaws::same_not_failed))]
 pub fn settle<S: Scheme<D> + Drop, L: Elector<S, D>, D: Digest, K: Disk>(
     core: &mut Core<S, L, D, K>,
     out: &mut Vec<Action<S, D>>,
 ) -> Result<(), NodeFault>
     ensures settled { AtOwn S.Scheme L.Elector K.Disk ⟦<S as Speaks<D>>⟧.formats core.old
         (λ f s h. WasSettled S.Scheme L.Elector K.Disk f s core.old core.new h out.old.items out.new.items result) }
-    ensures faults { TellsOfDisk K.Disk (disk_of core.old) (disk_of core.new) result }
+    ensures faults { TellsOfDisk K.Disk (disks_of core.old) (disks_of core.new) result }
 {
     a_ledger_at_rest_leaves_its_record::<S, D, K>();
     acts_end::<S, D>();
@@ -52,13 +53,14 @@ pub fn settle<S: Scheme<D> + Drop, L: Elector<S, D>, D: Digest, K: Disk>(
 }
 
 /// Does the first thing that is due. Where it did nothing, nothing is.
+#[tactic(auto, using(journal_books::specs::BooksLaws::same_not_failed))]
 fn act<S: Scheme<D> + Drop, L: Elector<S, D>, D: Digest, K: Disk>(
     core: &mut Core<S, L, D, K>,
     out: &mut Vec<Action<S, D>>,
 ) -> Result<Acted, NodeFault>
     ensures tried { AtOwn S.Scheme L.Elector K.Disk ⟦<S as Speaks<D>>⟧.formats core.old (λ f s h.
         WasTried S.Scheme L.Elector K.Disk f s is_silent (NoneDue S.Scheme f s) core.old core.new h out.old.items out.new.items result) }
-    ensures faults { TellsOfDisk K.Disk (disk_of core.old) (disk_of core.new) result }
+    ensures faults { TellsOfDisk K.Disk (disks_of core.old) (disks_of core.new) result }
 {
     a_latch_changes_nothing_due::<S, D>();
     match ask_on_proposals(core, out) {
@@ -80,6 +82,7 @@ fn act<S: Scheme<D> + Drop, L: Elector<S, D>, D: Digest, K: Disk>(
 }
 
 /// Asks what is to be known of others' proposals: for verdicts, and for verifications or what these lack.
+#[tactic(auto, using(journal_books::specs::BooksLaws::same_not_failed))]
 fn ask_on_proposals<S: Scheme<D> + Drop, L: Elector<S, D>, D: Digest, K: Disk>(
     core: &mut Core<S, L, D, K>,
     out: &mut Vec<Action<S, D>>,
@@ -87,7 +90,7 @@ fn ask_on_proposals<S: Scheme<D> + Drop, L: Elector<S, D>, D: Digest, K: Disk>(
     ensures tried { AtOwn S.Scheme L.Elector K.Disk ⟦<S as Speaks<D>>⟧.formats core.old (λ f s h.
         WasTried S.Scheme L.Elector K.Disk f s is_silent (NothingToAskOnProposals S.Scheme f s) core.old core.new h out.old.items
         out.new.items result) }
-    ensures faults { TellsOfDisk K.Disk (disk_of core.old) (disk_of core.new) result }
+    ensures faults { TellsOfDisk K.Disk (disks_of core.old) (disks_of core.new) result }
 {
     a_latch_changes_nothing_due::<S, D>();
     match try_verdicts(core, out) {
@@ -99,13 +102,14 @@ fn ask_on_proposals<S: Scheme<D> + Drop, L: Elector<S, D>, D: Digest, K: Disk>(
 }
 
 /// Does what is due of the votes of all views.
+#[tactic(auto, using(journal_books::specs::BooksLaws::same_not_failed))]
 fn go_by_votes<S: Scheme<D> + Drop, L: Elector<S, D>, D: Digest, K: Disk>(
     core: &mut Core<S, L, D, K>,
     out: &mut Vec<Action<S, D>>,
 ) -> Result<Acted, NodeFault>
     ensures tried { AtOwn S.Scheme L.Elector K.Disk ⟦<S as Speaks<D>>⟧.formats core.old (λ f s h.
         WasTried S.Scheme L.Elector K.Disk f s is_none (NothingByVotes S.Scheme f s) core.old core.new h out.old.items out.new.items result) }
-    ensures faults { TellsOfDisk K.Disk (disk_of core.old) (disk_of core.new) result }
+    ensures faults { TellsOfDisk K.Disk (disks_of core.old) (disks_of core.new) result }
 {
     match try_leader(core) {
         Ok(Acted::Nothing) => {}
@@ -121,6 +125,7 @@ fn go_by_votes<S: Scheme<D> + Drop, L: Elector<S, D>, D: Digest, K: Disk>(
 }
 
 /// Gives builds back and asks for others, asks other members for views, and gives a silent leader up.
+#[tactic(auto, using(journal_books::specs::BooksLaws::same_not_failed))]
 fn ask_for_more<S: Scheme<D> + Drop, L: Elector<S, D>, D: Digest, K: Disk>(
     core: &mut Core<S, L, D, K>,
     out: &mut Vec<Action<S, D>>,
@@ -128,7 +133,7 @@ fn ask_for_more<S: Scheme<D> + Drop, L: Elector<S, D>, D: Digest, K: Disk>(
     ensures tried { AtOwn S.Scheme L.Elector K.Disk ⟦<S as Speaks<D>>⟧.formats core.old (λ f s h.
         WasTried S.Scheme L.Elector K.Disk f s is_none (NothingMoreToAsk S.Scheme f s) core.old core.new h out.old.items out.new.items
         result) }
-    ensures faults { TellsOfDisk K.Disk (disk_of core.old) (disk_of core.new) result }
+    ensures faults { TellsOfDisk K.Disk (disks_of core.old) (disks_of core.new) result }
 {
     match try_return(core) {
         Ok(Acted::Nothing) => {}
@@ -149,13 +154,14 @@ fn ask_for_more<S: Scheme<D> + Drop, L: Elector<S, D>, D: Digest, K: Disk>(
 }
 
 /// Casts one vote that is due.
+#[tactic(auto, using(journal_books::specs::BooksLaws::same_not_failed))]
 fn vote<S: Scheme<D> + Drop, L: Elector<S, D>, D: Digest, K: Disk>(
     core: &mut Core<S, L, D, K>,
     out: &mut Vec<Action<S, D>>,
 ) -> Result<Acted, NodeFault>
     ensures tried { AtOwn S.Scheme L.Elector K.Disk ⟦<S as Speaks<D>>⟧.formats core.old (λ f s h.
         WasTried S.Scheme L.Elector K.Disk f s is_poll (NoVoteToCast S.Scheme f s) core.old core.new h out.old.items out.new.items result) }
-    ensures faults { TellsOfDisk K.Disk (disk_of core.old) (disk_of core.new) result }
+    ensures faults { TellsOfDisk K.Disk (disks_of core.old) (disks_of core.new) result }
 {
     a_latch_changes_nothing_due::<S, D>();
     match try_notarize(core, out) {

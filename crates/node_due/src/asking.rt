@@ -6,7 +6,7 @@ ghost use Rattle.node_requests.specs.NoneDue.{NoBuildToAsk, NoBuildToGiveBack, N
 ghost use Rattle.node_requests.specs.Silence.{IsSilenceOf};
 ghost use Rattle.simplex_member.specs.Member.{NoneDue};
 ghost use Rattle.node_due.specs.Acting.{WasSettled, WasTried};
-ghost use Rattle.node_core.specs.Keeps.{AtAll, AtOwn, disk_of};
+ghost use Rattle.node_core.specs.Keeps.{AtAll, AtOwn, disks_of};
 ghost use Rattle.node_core.specs.Telling.{TellsOfDisk};
 
 use journal_single::Disk;
@@ -27,6 +27,7 @@ use types_terms::Elector;
 /// # Errors
 ///
 /// [`NodeFault::Memory`].
+#[tactic(auto, using(journal_books::specs::BooksLaws::same_not_failed))]
 pub(crate) fn try_verdicts<S: Scheme<D> + Drop, L: Elector<S, D>, D: Digest, K: Disk>(
     core: &mut Core<S, L, D, K>,
     out: &mut Vec<Action<S, D>>,
@@ -34,7 +35,7 @@ pub(crate) fn try_verdicts<S: Scheme<D> + Drop, L: Elector<S, D>, D: Digest, K: 
     ensures tried { AtOwn S.Scheme L.Elector K.Disk ⟦<S as Speaks<D>>⟧.formats core.old (λ f s h.
         WasTried S.Scheme L.Elector K.Disk f s is_put_off (NoVerdictToAsk S.Scheme f s) core.old core.new h out.old.items out.new.items
         result) }
-    ensures faults { TellsOfDisk K.Disk (disk_of core.old) (disk_of core.new) result }
+    ensures faults { TellsOfDisk K.Disk (disks_of core.old) (disks_of core.new) result }
 {
     a_ledger_at_rest_leaves_its_record::<S, D, K>();
     silent_points_leave_votes::<S, D>();
@@ -48,6 +49,7 @@ pub(crate) fn try_verdicts<S: Scheme<D> + Drop, L: Elector<S, D>, D: Digest, K: 
 /// # Errors
 ///
 /// [`NodeFault::Memory`].
+#[tactic(auto, using(journal_books::specs::BooksLaws::same_not_failed))]
 pub(crate) fn try_verification<S: Scheme<D> + Drop, L: Elector<S, D>, D: Digest, K: Disk>(
     core: &mut Core<S, L, D, K>,
     out: &mut Vec<Action<S, D>>,
@@ -55,7 +57,7 @@ pub(crate) fn try_verification<S: Scheme<D> + Drop, L: Elector<S, D>, D: Digest,
     ensures tried { AtOwn S.Scheme L.Elector K.Disk ⟦<S as Speaks<D>>⟧.formats core.old (λ f s h.
         WasTried S.Scheme L.Elector K.Disk f s is_latch (NoVerificationToAsk S.Scheme f s) core.old core.new h out.old.items out.new.items
         result) }
-    ensures faults { TellsOfDisk K.Disk (disk_of core.old) (disk_of core.new) result }
+    ensures faults { TellsOfDisk K.Disk (disks_of core.old) (disks_of core.new) result }
 {
     a_ledger_at_rest_leaves_its_record::<S, D, K>();
     silent_points_leave_votes::<S, D>();
@@ -68,13 +70,14 @@ pub(crate) fn try_verification<S: Scheme<D> + Drop, L: Elector<S, D>, D: Digest,
 /// # Errors
 ///
 /// [`NodeFault::Memory`].
+#[tactic(auto, using(journal_books::specs::BooksLaws::same_not_failed))]
 pub(crate) fn try_return<S: Scheme<D> + Drop, L: Elector<S, D>, D: Digest, K: Disk>(
     core: &mut Core<S, L, D, K>,
 ) -> Result<Acted, NodeFault>
     ensures tried { AtOwn S.Scheme L.Elector K.Disk ⟦<S as Speaks<D>>⟧.formats core.old (λ f s h.
         (actions : List (Action S D S.PublicKey S.Signature S.Certificate))
         → WasTried S.Scheme L.Elector K.Disk f s is_none (NoBuildToGiveBack S.Scheme f s) core.old core.new h actions actions result) }
-    ensures faults { TellsOfDisk K.Disk (disk_of core.old) (disk_of core.new) result }
+    ensures faults { TellsOfDisk K.Disk (disks_of core.old) (disks_of core.new) result }
 {
     a_ledger_at_rest_leaves_its_record::<S, D, K>();
     silent_points_leave_votes::<S, D>();
@@ -86,13 +89,14 @@ pub(crate) fn try_return<S: Scheme<D> + Drop, L: Elector<S, D>, D: Digest, K: Di
 /// # Errors
 ///
 /// [`NodeFault::Memory`].
+#[tactic(auto, using(journal_books::specs::BooksLaws::same_not_failed))]
 pub(crate) fn try_build<S: Scheme<D> + Drop, L: Elector<S, D>, D: Digest, K: Disk>(
     core: &mut Core<S, L, D, K>,
     out: &mut Vec<Action<S, D>>,
 ) -> Result<Acted, NodeFault>
     ensures tried { AtOwn S.Scheme L.Elector K.Disk ⟦<S as Speaks<D>>⟧.formats core.old (λ f s h.
         WasTried S.Scheme L.Elector K.Disk f s is_none (NoBuildToAsk S.Scheme f s) core.old core.new h out.old.items out.new.items result) }
-    ensures faults { TellsOfDisk K.Disk (disk_of core.old) (disk_of core.new) result }
+    ensures faults { TellsOfDisk K.Disk (disks_of core.old) (disks_of core.new) result }
 {
     a_ledger_at_rest_leaves_its_record::<S, D, K>();
     silent_points_leave_votes::<S, D>();
@@ -104,13 +108,14 @@ pub(crate) fn try_build<S: Scheme<D> + Drop, L: Elector<S, D>, D: Digest, K: Dis
 /// # Errors
 ///
 /// [`NodeFault::Memory`].
+#[tactic(auto, using(journal_books::specs::BooksLaws::same_not_failed))]
 pub(crate) fn try_views<S: Scheme<D> + Drop, L: Elector<S, D>, D: Digest, K: Disk>(
     core: &mut Core<S, L, D, K>,
     out: &mut Vec<Action<S, D>>,
 ) -> Result<Acted, NodeFault>
     ensures tried { AtOwn S.Scheme L.Elector K.Disk ⟦<S as Speaks<D>>⟧.formats core.old (λ f s h.
         WasTried S.Scheme L.Elector K.Disk f s is_none (NoViewToAsk S.Scheme f s) core.old core.new h out.old.items out.new.items result) }
-    ensures faults { TellsOfDisk K.Disk (disk_of core.old) (disk_of core.new) result }
+    ensures faults { TellsOfDisk K.Disk (disks_of core.old) (disks_of core.new) result }
 {
     a_ledger_at_rest_leaves_its_record::<S, D, K>();
     silent_points_leave_votes::<S, D>();
@@ -123,13 +128,14 @@ pub(crate) fn try_views<S: Scheme<D> + Drop, L: Elector<S, D>, D: Digest, K: Dis
 /// # Errors
 ///
 /// [`NodeFault::Memory`].
+#[tactic(auto, using(journal_books::specs::BooksLaws::same_not_failed))]
 pub(crate) fn try_silence<S: Scheme<D> + Drop, L: Elector<S, D>, D: Digest, K: Disk>(
     core: &mut Core<S, L, D, K>,
 ) -> Result<Acted, NodeFault>
     ensures tried { AtOwn S.Scheme L.Elector K.Disk ⟦<S as Speaks<D>>⟧.formats core.old (λ f s h.
         (actions : List (Action S D S.PublicKey S.Signature S.Certificate))
         → WasTried S.Scheme L.Elector K.Disk f s is_none (NoSilence S.Scheme f s) core.old core.new h actions actions result) }
-    ensures faults { TellsOfDisk K.Disk (disk_of core.old) (disk_of core.new) result }
+    ensures faults { TellsOfDisk K.Disk (disks_of core.old) (disks_of core.new) result }
 {
     a_ledger_at_rest_leaves_its_record::<S, D, K>();
     silent_points_leave_votes::<S, D>();
@@ -142,13 +148,14 @@ pub(crate) fn try_silence<S: Scheme<D> + Drop, L: Elector<S, D>, D: Digest, K: D
 /// # Errors
 ///
 /// [`NodeFault::Memory`].
+#[tactic(auto, using(journal_books::specs::BooksLaws::same_not_failed))]
 pub(crate) fn say_when<S: Scheme<D> + Drop, L: Elector<S, D>, D: Digest, K: Disk>(
     core: &mut Core<S, L, D, K>,
     out: &mut Vec<Action<S, D>>,
 ) -> Result<(), NodeFault>
     ensures settled { AtOwn S.Scheme L.Elector K.Disk ⟦<S as Speaks<D>>⟧.formats core.old
         (λ f s h. NoneDue S.Scheme f s h → WasSettled S.Scheme L.Elector K.Disk f s core.old core.new h out.old.items out.new.items result) }
-    ensures faults { TellsOfDisk K.Disk (disk_of core.old) (disk_of core.new) result }
+    ensures faults { TellsOfDisk K.Disk (disks_of core.old) (disks_of core.new) result }
 {
     a_ledger_at_rest_leaves_its_record::<S, D, K>();
     let silence = silence(core);

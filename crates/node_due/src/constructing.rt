@@ -5,7 +5,7 @@ ghost use Rattle.messages_certificates.specs.Artifact.{artifact_fits};
 ghost use Rattle.messages_certificates.specs.declared.certificate.Certificate.{Certificate};
 ghost use Rattle.types_terms.specs.declared.kind.Kind.{Kind};
 ghost use Rattle.batcher_verifier.specs.declared.batch.Batch.{Batch};
-ghost use Rattle.journal_single.specs.Disk.{LeavesOnly};
+ghost use Rattle.journal_books.specs.Books.{LeaveBook};
 ghost use Rattle.node_requests.specs.Asking.{is_none};
 ghost use Rattle.node_requests.specs.declared.acted.Acted.TheVariants as came;
 ghost use Rattle.node_outbox.specs.Handing.{AddsDeeds};
@@ -17,7 +17,7 @@ ghost use Rattle.simplex_member.specs.Point.{History, Constructs, Forwards};
 ghost use Rattle.simplex_member.specs.Setup.{Setup};
 ghost use Rattle.node_due.specs.Acting.{WasTried};
 ghost use Rattle.node_due.specs.Ahead.{MayCome, VotesAreAhead, VotesGoAhead};
-ghost use Rattle.node_core.specs.Keeps.{AtOwn, CoreKeeps, disk_of};
+ghost use Rattle.node_core.specs.Keeps.{AtOwn, CoreKeeps, book_of, disks_of};
 ghost use Rattle.node_requests.specs.Leading.{NoLeaderToName};
 ghost use Rattle.node_due.specs.NoneDue.{NoConstructionToMake};
 ghost use Rattle.node_core.specs.Telling.{TellsOfDisk};
@@ -43,13 +43,14 @@ use types_terms::Elector;
 /// # Errors
 ///
 /// [`NodeFault::Memory`].
+#[tactic(auto, using(journal_books::specs::BooksLaws::same_not_failed))]
 pub(crate) fn try_leader<S: Scheme<D> + Drop, L: Elector<S, D>, D: Digest, K: Disk>(
     core: &mut Core<S, L, D, K>,
 ) -> Result<Acted, NodeFault>
     ensures tried { AtOwn S.Scheme L.Elector K.Disk ⟦<S as Speaks<D>>⟧.formats core.old (λ f s h.
         (actions : List (Action S D S.PublicKey S.Signature S.Certificate))
         → WasTried S.Scheme L.Elector K.Disk f s is_none (NoLeaderToName s) core.old core.new h actions actions result) }
-    ensures faults { TellsOfDisk K.Disk (disk_of core.old) (disk_of core.new) result }
+    ensures faults { TellsOfDisk K.Disk (disks_of core.old) (disks_of core.new) result }
 {
     a_ledger_at_rest_leaves_its_record::<S, D, K>();
     name_leader(&core.voter, &mut core.acceptance)
@@ -60,6 +61,7 @@ pub(crate) fn try_leader<S: Scheme<D> + Drop, L: Elector<S, D>, D: Digest, K: Di
 /// # Errors
 ///
 /// [`NodeFault::Memory`] and [`NodeFault::Device`]. Then the record is the one before, or has the certificate that was made.
+#[tactic(auto, using(journal_books::specs::BooksLaws::same_not_failed))]
 pub(crate) fn try_votes_of_views<S: Scheme<D> + Drop, L: Elector<S, D>, D: Digest, K: Disk>(
     core: &mut Core<S, L, D, K>,
     out: &mut Vec<Action<S, D>>,
@@ -67,7 +69,7 @@ pub(crate) fn try_votes_of_views<S: Scheme<D> + Drop, L: Elector<S, D>, D: Diges
     ensures tried { AtOwn S.Scheme L.Elector K.Disk ⟦<S as Speaks<D>>⟧.formats core.old (λ f s h.
         WasTried S.Scheme L.Elector K.Disk f s is_none (NoConstructionToMake S.Scheme f s) core.old core.new h out.old.items out.new.items
         result) }
-    ensures faults { TellsOfDisk K.Disk (disk_of core.old) (disk_of core.new) result }
+    ensures faults { TellsOfDisk K.Disk (disks_of core.old) (disks_of core.new) result }
 {
     a_ledger_at_rest_leaves_its_record::<S, D, K>();
     what_is_made_may_be_recorded::<S, D>();
@@ -94,7 +96,7 @@ fn take_proposal<S: Scheme<D> + Drop, L: Elector<S, D>, D: Digest, K: Disk>(
         (Forwards view proposal.now)
         → Allowed S.Scheme f s h (Forwards view proposal.now)
         → CoreKeeps S.Scheme L.Elector K.Disk f s core.new (Forwards view proposal.now ∷ h)) }
-    ensures disk { disk_of core.new ≡ disk_of core.old }
+    ensures book { book_of core.new ≡ book_of core.old }
     ensures fault { IfErr result (λ why. why ≡ step_fault.Memory) }
 {
     match core.voter.set_proposal(view, proposal) {
@@ -104,6 +106,7 @@ fn take_proposal<S: Scheme<D> + Drop, L: Elector<S, D>, D: Digest, K: Disk>(
 }
 
 /// Takes what a construction gave: who is invalid is blocked, a certificate is taken.
+#[tactic(auto, using(journal_books::specs::BooksLaws::same_not_failed))]
 fn take_batch<S: Scheme<D> + Drop, L: Elector<S, D>, D: Digest, K: Disk>(
     core: &mut Core<S, L, D, K>,
     batch: Batch<Certificate<S, D>>,
@@ -121,8 +124,8 @@ fn take_batch<S: Scheme<D> + Drop, L: Elector<S, D>, D: Digest, K: Disk>(
         (Constructs view kind batch)
         → MayCome S.Scheme f s (artifact_fits D.fits S.Signature.fits S.Certificate.fits) h (Constructs view kind batch)
         → K.keeps
-        → LeavesOnly (K.calls (disk_of core.old)) (K.calls (disk_of core.new)) (IsLeftBy S.Scheme f s h (Constructs view kind batch)) }
-    ensures faults { TellsOfDisk K.Disk (disk_of core.old) (disk_of core.new) result }
+        → LeaveBook K.Disk (book_of core.old) (book_of core.new) (IsLeftBy S.Scheme f s h (Constructs view kind batch)) }
+    ensures faults { TellsOfDisk K.Disk (disks_of core.old) (disks_of core.new) result }
 {
     a_ledger_at_rest_leaves_its_record::<S, D, K>();
     let Batch {
@@ -148,6 +151,7 @@ fn take_batch<S: Scheme<D> + Drop, L: Elector<S, D>, D: Digest, K: Disk>(
 
 /// Takes a certificate that was made, of which the votes of its view know already: the other layers learn of it, it is recorded,
 /// and what it brings is handed out.
+#[tactic(auto, using(journal_books::specs::BooksLaws::same_not_failed))]
 fn take_made<S: Scheme<D> + Drop, L: Elector<S, D>, D: Digest, K: Disk>(
     core: &mut Core<S, L, D, K>,
     certificate: Certificate<S, D>,
@@ -174,8 +178,8 @@ fn take_made<S: Scheme<D> + Drop, L: Elector<S, D>, D: Digest, K: Disk>(
         → MayCome S.Scheme f s (artifact_fits D.fits S.Signature.fits S.Certificate.fits) h (Constructs view kind batch)
         → batch.certificate ≡ Some certificate
         → K.keeps
-        → LeavesOnly (K.calls (disk_of core.old)) (K.calls (disk_of core.new)) (IsLeftBy S.Scheme f s h (Constructs view kind batch)) }
-    ensures faults { TellsOfDisk K.Disk (disk_of core.old) (disk_of core.new) result }
+        → LeaveBook K.Disk (book_of core.old) (book_of core.new) (IsLeftBy S.Scheme f s h (Constructs view kind batch)) }
+    ensures faults { TellsOfDisk K.Disk (disks_of core.old) (disks_of core.new) result }
 {
     let was = core.voter.current_view();
     let low = core.voter.last_finalized();
@@ -190,6 +194,7 @@ fn take_made<S: Scheme<D> + Drop, L: Elector<S, D>, D: Digest, K: Disk>(
 }
 
 /// All layers but the votes of its view learn of a certificate that was made, and it is recorded.
+#[tactic(auto, using(journal_books::specs::BooksLaws::same_not_failed))]
 fn learn_made<S: Scheme<D> + Drop, L: Elector<S, D>, D: Digest, K: Disk>(
     core: &mut Core<S, L, D, K>,
     certificate: &Certificate<S, D>,
@@ -208,8 +213,8 @@ fn learn_made<S: Scheme<D> + Drop, L: Elector<S, D>, D: Digest, K: Disk>(
         → MayCome S.Scheme f s (artifact_fits D.fits S.Signature.fits S.Certificate.fits) h (Constructs view kind batch)
         → batch.certificate ≡ Some certificate.now
         → K.keeps
-        → LeavesOnly (K.calls (disk_of core.old)) (K.calls (disk_of core.new)) (IsLeftBy S.Scheme f s h (Constructs view kind batch)) }
-    ensures faults { TellsOfDisk K.Disk (disk_of core.old) (disk_of core.new) result }
+        → LeaveBook K.Disk (book_of core.old) (book_of core.new) (IsLeftBy S.Scheme f s h (Constructs view kind batch)) }
+    ensures faults { TellsOfDisk K.Disk (disks_of core.old) (disks_of core.new) result }
 {
     what_is_not_recorded_is_unknown::<S, D>();
     a_ledger_at_rest_leaves_its_record::<S, D, K>();

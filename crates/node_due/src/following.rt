@@ -4,7 +4,7 @@ ghost use Rattle.std.specs.Prelude.{List};
 ghost use Rattle.node_requests.specs.Asking.{is_none};
 ghost use Rattle.simplex_member.specs.declared.action.Action.{Action};
 ghost use Rattle.node_due.specs.Acting.{WasTried};
-ghost use Rattle.node_core.specs.Keeps.{AtOwn, disk_of};
+ghost use Rattle.node_core.specs.Keeps.{AtOwn, disks_of};
 ghost use Rattle.node_due.specs.NoneDue.{NoLeaderToFollow};
 ghost use Rattle.node_core.specs.Telling.{TellsOfDisk};
 
@@ -22,13 +22,14 @@ use types_terms::Elector;
 /// # Errors
 ///
 /// [`NodeFault::Memory`].
+#[tactic(auto, using(journal_books::specs::BooksLaws::same_not_failed))]
 pub(crate) fn try_to_follow<S: Scheme<D> + Drop, L: Elector<S, D>, D: Digest, K: Disk>(
     core: &mut Core<S, L, D, K>,
 ) -> Result<Acted, NodeFault>
     ensures tried { AtOwn S.Scheme L.Elector K.Disk ⟦<S as Speaks<D>>⟧.formats core.old (λ f s h.
         (actions : List (Action S D S.PublicKey S.Signature S.Certificate))
         → WasTried S.Scheme L.Elector K.Disk f s is_none (NoLeaderToFollow S.Scheme f s) core.old core.new h actions actions result) }
-    ensures faults { TellsOfDisk K.Disk (disk_of core.old) (disk_of core.new) result }
+    ensures faults { TellsOfDisk K.Disk (disks_of core.old) (disks_of core.new) result }
 {
     a_ledger_at_rest_leaves_its_record::<S, D, K>();
     silent_points_leave_votes::<S, D>();

@@ -6,11 +6,10 @@ ghost use Rattle.messages_certificates.specs.declared.artifact.Artifact.{Artifac
 ghost use Rattle.simplex_record.specs.declared.owner.Owner.{Owner};
 ghost use Rattle.simplex_record.specs.Record.{entry, entries};
 ghost use Rattle.simplex_record.specs.Rules.{MayFollow};
-ghost use Rattle.journal_single.specs.Disk.{LeavesOnly, counted};
-ghost use Rattle.journal_single.specs.Record.{IsWithOrWithout};
+ghost use Rattle.journal_books.specs.Books.{HasFailed, HasNotFailed, IsWithOrWithout, LeaveBook};
 ghost use Rattle.simplex_member.specs.declared.fault.NodeFault.{NodeFault};
 ghost use Rattle.simplex_member.specs.declared.fault.NodeFault.TheVariants as step_fault;
-ghost use Rattle.node_record.specs.Ledger.{KeepsRecord, disk_of};
+ghost use Rattle.node_record.specs.Ledger.{KeepsRecord, book_of, disks_of};
 
 use journal_single::{BOUND, Disk};
 use messages_certificates::Artifact;
@@ -18,16 +17,17 @@ use node_record::{Ledger, a_ledger_at_rest_leaves_its_record};
 use simplex_member::NodeFault;
 use types_core::{Digest, EncodeSize, Scheme};
 
-/// The most bytes of an artifact that a disk takes.
-const LONGEST: usize = u32::MAX as usize;
+/// The most bytes of an artifact that a record takes, be it over one disk or over two.
+const LONGEST: usize = u32::MAX as usize - 1;
 
-/// Records an artifact that may stand behind the record. That it is not too long, and can be read again, is tested, since the disk wants
+/// Records an artifact that may stand behind the record. That it is not too long, and can be read again, is tested, since a disk wants
 /// to know it: each can be read again that may be recorded.
 ///
 /// # Errors
 ///
-/// [`NodeFault::Device`] where the disk failed, and else [`NodeFault::Memory`]. Behind an error nothing is said of the ledger, but that a
+/// [`NodeFault::Device`] where a disk failed, and else [`NodeFault::Memory`]. Behind an error nothing is said of the ledger, but that a
 /// crash leaves the record with the artifact or without it.
+#[tactic(auto, using(journal_books::specs::BooksLaws::same_not_failed))]
 pub fn record<S: Scheme<D>, D: Digest, K: Disk>(
     ledger: &mut Ledger<S, D, K>,
     artifact: Artifact<S, D>,
@@ -42,14 +42,14 @@ pub fn record<S: Scheme<D>, D: Digest, K: Disk>(
     ensures any_moment { (owner : Owner) (xs : List (Artifact S D S.PublicKey S.Signature S.Certificate))
         → KeepsRecord K.Disk (artifact_spelling D.spelling S.Signature.spelling S.Certificate.spelling) owner ledger.old xs
         → K.keeps
-        → LeavesOnly (K.calls (disk_of ledger.old)) (K.calls (disk_of ledger.new)) (IsWithOrWithout
+        → LeaveBook K.Disk (book_of ledger.old) (book_of ledger.new) (IsWithOrWithout
         (map (artifact_spelling D.spelling S.Signature.spelling S.Certificate.spelling) xs)
         (artifact_spelling D.spelling S.Signature.spelling S.Certificate.spelling artifact)) }
 
-    // The disk has failed once more exactly where that is told.
-    ensures device { IsErrOf result NodeFault.Device → K.failed (disk_of ledger.new) ≡ counted false (K.failed (disk_of ledger.old)) }
-    ensures no_device { IfErr result (λ why. why ≢ step_fault.Device → K.failed (disk_of ledger.new) ≡ K.failed (disk_of ledger.old)) }
-    ensures no_fault { OnOk result (K.failed (disk_of ledger.new) ≡ K.failed (disk_of ledger.old)) }
+    // A disk has failed once more exactly where that is told.
+    ensures device { IsErrOf result NodeFault.Device → HasFailed K.Disk (disks_of ledger.old) (disks_of ledger.new) }
+    ensures no_device { IfErr result (λ why. why ≢ step_fault.Device → HasNotFailed K.Disk (disks_of ledger.old) (disks_of ledger.new)) }
+    ensures no_fault { OnOk result (HasNotFailed K.Disk (disks_of ledger.old) (disks_of ledger.new)) }
     ensures not_failed { ¬ IsErrOf result NodeFault.Failed }
 
     // It has a spelling, whatever is answered.

@@ -8,9 +8,12 @@ use Rattle.std.proofs.lemmas.Option.{none-some}
 use Rattle.types_core.specs.declared.scheme.Scheme.{Ghosts}
 use Rattle.types_terms.specs.declared.elector.Elector as elector
 use Rattle.journal_single.specs.declared.disk.Disk as disk
-use Rattle.journal_single.specs.Disk.{Call, LeavesOnly}
-use Rattle.journal_single.specs.Moments.{weaker}
-use Rattle.journal_single.specs.Record.{Reads}
+use Rattle.messages_certificates.specs.declared.artifact.Artifact.{Artifact}
+use Rattle.journal_books.specs.declared.books.Books.{Books}
+use Rattle.journal_books.specs.declared.disks.Disks.{Disks}
+use Rattle.journal_books.specs.Books as words
+use Rattle.journal_books.specs.Books.{LeaveBook}
+use Rattle.journal_books.specs.BooksLaws.{book_weaker, same_not_failed}
 use Rattle.simplex_member.specs.declared.action.Action.{Action}
 use Rattle.simplex_member.specs.declared.event.Channel.{Channel}
 use Rattle.simplex_member.specs.declared.event.Event.{Event}
@@ -42,7 +45,7 @@ use Rattle.node_core.specs.Telling.{TellsOfDisk}
 use Rattle.node_core.specs.Taking.{IsLeftBy, IsTaken}
 use Rattle.node_outbox.specs.Handing.{AddsDeeds}
 use Rattle.node_input.specs.Hearing.{IsHeard}
-use Rattle.node_core.specs.Keeps.{disk_of}
+use Rattle.node_core.specs.Keeps.{book_of}
 use Rattle.node_input.specs.Refusing.{IsAnother, last_vote_tests, packet_refused_deeds}
 use Rattle.node_input.specs.Stepping.{IsHandled}
 use Rattle.node_input.proofs.Refusals.{blocks-needs, no-report}
@@ -50,9 +53,9 @@ use Rattle.node_input.proofs.Tests.{first-is-one, first-of-rest}
 use Rattle.node_input.proofs.Refusals.{packet-needs}
 
 -- of a disk of which nothing was asked nothing is told
-pub untouched : {K A : Type 0} (k : disk.Ghosts K) (on : K) (answer : Result A NodeFault) → IfErr answer (λ why. why ≡ step_fault.Memory) → TellsOfDisk k on on answer
-untouched k on (Ok x) memory = record { device = λ is. absurd (cc is); no_device = tt; no_fault = refl; not_failed = λ is. absurd (cc is) }
-untouched k on (Err why) memory = record { device = λ is. absurd (cc (is, memory)); no_device = λ other. refl; no_fault = tt; not_failed = λ is. absurd (cc (is, memory)) }
+pub untouched : {K A : Type 0} (k : disk.Ghosts K) (on : Disks K) (answer : Result A NodeFault) → IfErr answer (λ why. why ≡ step_fault.Memory) → TellsOfDisk k on on answer
+untouched k on (Ok x) memory = record { device = λ is. absurd (cc is); no_device = tt; no_fault = same_not_failed k on; not_failed = λ is. absurd (cc is) }
+untouched k on (Err why) memory = record { device = λ is. absurd (cc (is, memory)); no_device = λ other. same_not_failed k on; no_fault = tt; not_failed = λ is. absurd (cc (is, memory)) }
 
 module _ {S D P G C : Type 0} (g : Ghosts S D P G C) (f : Formats S D P G C) (s : Setup S D C) (h : History S D P G C) (event : Event D) where
   -- no test refuses an event: then no refusal is due
@@ -64,16 +67,17 @@ module _ {S D P G C : Type 0} {g : Ghosts S D P G C} {f : Formats S D P G C} {s 
   pub is-step : {p : Point S D P G C} → IsFirst (tests g f s h event) None → IsPointOf g f s event p → AreStep g f s h event (p ∷ [])
   is-step {p} none of_it = record { passes = none; first = p; acts = []; split = refl; of_it = of_it; own = All-nil (λ (q : Point S D P G C). is_act q ≡ true) }
 
-  reached : (p : Point S D P G C) (image : List ℕ) → IsFirst (tests g f s h event) None → IsPointOf g f s event p → IsLeftBy g f s h p image → IsReached g f s h event image
-  reached p image none of_it left = ⊎_elim (λ before. inl before) (λ behind. inr (p ∷ [], p ∷ h, is-step none of_it, (behind.0, refl), behind.1)) left
+  reached : (p : Point S D P G C) (read : List (List ℕ)) → IsFirst (tests g f s h event) None → IsPointOf g f s event p → IsLeftBy g f s h p read → IsReached g f s h event read
+  reached p read none of_it left = ⊎_elim (λ before. inl before) (λ behind. inr (p ∷ [], p ∷ h, is-step none of_it, (behind.0, refl), behind.1)) left
 
+module _ {S D P G C K : Type 0} (g : Ghosts S D P G C) (f : Formats S D P G C) (s : Setup S D C) (h : History S D P G C) (k : disk.Ghosts K) (old new : Books (Artifact S D P G C) K) (event : Event D) where
   -- a crash leaves what taking the event's point may leave
-  pub point-reached : {p : Point S D P G C} {old new : List Call} → IsFirst (tests g f s h event) None → IsPointOf g f s event p → LeavesOnly old new (IsLeftBy g f s h p) → LeavesOnly old new (IsReached g f s h event)
-  point-reached {p} none of_it leaves = weaker (IsReached g f s h event) leaves (λ image left. reached p image none of_it left)
+  pub point-reached : (p : Point S D P G C) → IsFirst (tests g f s h event) None → IsPointOf g f s event p → LeaveBook k old new (IsLeftBy g f s h p) → LeaveBook k old new (IsReached g f s h event)
+  point-reached p none of_it leaves = book_weaker k (IsLeftBy g f s h p) (IsReached g f s h event) (λ read left. reached event p read none of_it left) old new leaves
 
   -- it leaves the record
-  pub rest-reached : {old new : List Call} → LeavesOnly old new (λ image. Reads image (map f.artifact (record_of h))) → LeavesOnly old new (IsReached g f s h event)
-  rest-reached leaves = weaker (IsReached g f s h event) leaves (λ image reads. inl reads)
+  pub rest-reached : LeaveBook k old new (λ read. read ≡ map f.artifact (record_of h)) → LeaveBook k old new (IsReached g f s h event)
+  rest-reached leaves = book_weaker k (λ read. read ≡ map f.artifact (record_of h)) (IsReached g f s h event) (λ read is. inl is) old new leaves
 
 module _ {S L D P G C K : Type 0} {g : Ghosts S D P G C} {e : elector.Ghosts L S D P G C} {k : disk.Ghosts K} {f : Formats S D P G C} {s : Setup S D C} {new : Core S L D K P G C} {h : History S D P G C} (event : Event D) (actions : List (Action S D P G C)) where
   -- an event was taken
@@ -98,14 +102,14 @@ module _ {S L D P G C K : Type 0} {g : Ghosts S D P G C} {e : elector.Ghosts L S
       → (end : History S D P G C) × StepsBy g f s h event (Some r) actions end × CoreKeeps g e k f s new end
   turned-down r first acts keeps = (h, (first, (refl, acts)), keeps)
 
--- of a disk that is the same nothing is told
-pub unasked : {K A : Type 0} (k : disk.Ghosts K) (old new : K) (answer : Result A NodeFault) → new ≡ old → IfErr answer (λ why. why ≡ step_fault.Memory) → TellsOfDisk k old new answer
-unasked k old new answer same memory = subst (λ (on : _). TellsOfDisk k old on answer) (sym same) (untouched k old answer memory)
+-- of disks that are the same nothing is told
+pub unasked : {M K A : Type 0} (k : disk.Ghosts K) (old new : Books M K) (answer : Result A NodeFault) → new ≡ old → IfErr answer (λ why. why ≡ step_fault.Memory) → TellsOfDisk k (words.disks_of old) (words.disks_of new) answer
+unasked k old new answer same memory = subst (λ (b : _). TellsOfDisk k (words.disks_of old) (words.disks_of b) answer) (sym same) (untouched k (words.disks_of old) answer memory)
 
-module _ {S D P G C K : Type 0} (g : Ghosts S D P G C) (f : Formats S D P G C) (s : Setup S D C) (h : History S D P G C) (k : disk.Ghosts K) (event : Event D) where
-  -- where the disk is the same, a crash leaves the record
-  pub still-reached : {old new : K} → new ≡ old → LeavesOnly (k.calls old) (k.calls old) (λ image. Reads image (map f.artifact (record_of h))) → LeavesOnly (k.calls old) (k.calls new) (IsReached g f s h event)
-  still-reached {old} same leaves = subst (λ (on : K). LeavesOnly (k.calls old) (k.calls on) (IsReached g f s h event)) (sym same) (rest-reached event leaves)
+module _ {S D P G C K : Type 0} (g : Ghosts S D P G C) (f : Formats S D P G C) (s : Setup S D C) (h : History S D P G C) (k : disk.Ghosts K) (old new : Books (Artifact S D P G C) K) (event : Event D) where
+  -- where the journal is the same, a crash leaves the record
+  pub still-reached : new ≡ old → LeaveBook k old old (λ read. read ≡ map f.artifact (record_of h)) → LeaveBook k old new (IsReached g f s h event)
+  still-reached same leaves = subst (λ (b : Books (Artifact S D P G C) K). LeaveBook k old b (IsReached g f s h event)) (sym same) (rest-reached g f s h k old old event leaves)
 
 module _ {S L D P G C K : Type 0} (g : Ghosts S D P G C) (e : elector.Ghosts L S D P G C) (k : disk.Ghosts K) (f : Formats S D P G C) (s : Setup S D C) (new : Core S L D K P G C) (h : History S D P G C) where
   -- what is handed out behind nothing
@@ -142,7 +146,7 @@ module _ {S L D P G C K : Type 0} (g : Ghosts S D P G C) (e : elector.Ghosts L S
   -- a vote of another member was heard, or refused for other votes, or there was no memory for it
   pub heard-handled : (sender : ℕ) (by : Channel) (bytes : Vec ℕ Global) (v : Vote S D P G C) (before after : List (Action S D P G C)) (answer : Result (Option Refusal) NodeFault) → before ≡ [] → IsAnother g f s sender → f.packet_in by bytes.items ≡ Some (of_vote v) → vote_signer v ≡ sender
       → ((answer : Option Refusal) → IsFirst (last_vote_tests g f s h sender v) answer → IsFirst (tests g f s h (event.Packet sender by bytes)) answer) → IfOk answer (λ refused. IsHeard g e k f s new h sender v refused before after)
-      → (k.keeps → LeavesOnly (k.calls (disk_of old)) (k.calls (disk_of new)) (IsReached g f s h (event.Packet sender by bytes)))
+      → (k.keeps → LeaveBook k (book_of old) (book_of new) (IsReached g f s h (event.Packet sender by bytes)))
       → IsHandled g e k f s old new h (event.Packet sender by bytes) after answer
   heard-handled sender by bytes v before after (Ok refused) none another found signer all heard moment = record {
     ok = heard-stepped g e k f s new h sender by bytes v refused after found signer all (subst (λ (l : List (Action S D P G C)). IsHeard g e k f s new h sender v refused l after) none heard);
@@ -159,7 +163,7 @@ module _ {S L D P G C K : Type 0} (g : Ghosts S D P G C) (e : elector.Ghosts L S
   -- a packet was refused, for no contradiction
   pub refused-handled : (sender : ℕ) (by : Channel) (bytes : Vec ℕ Global) (r : Refusal) (before after : List (Action S D P G C)) → before ≡ [] → IsFirst (tests g f s h (event.Packet sender by bytes)) (Some r) → r ≢ refusal.Contradiction
       → AddsDeeds f before after (if blocks_sender r then Blocks sender ∷ [] else [])
-      → CoreKeeps g e k f s node h → (k.keeps → LeavesOnly (k.calls (disk_of node)) (k.calls (disk_of node)) (λ image. Reads image (map f.artifact (record_of h))))
+      → CoreKeeps g e k f s node h → (k.keeps → LeaveBook k (book_of node) (book_of node) (λ read. read ≡ map f.artifact (record_of h)))
       → IsHandled g e k f s node node h (event.Packet sender by bytes) after (Ok (Some r))
   refused-handled sender by bytes r before after none first other acts keeps leaves =
       let deeds = evidence_deeds g f s h sender (f.packet_in by bytes.items) in
@@ -168,16 +172,16 @@ module _ {S L D P G C K : Type 0} (g : Ghosts S D P G C) (e : elector.Ghosts L S
       let all : AreActions f after (refused_deeds g f s h (event.Packet sender by bytes) r) = subst (λ (l : List _). AreActions f after (front ++ l)) (sym (no-report g f s r deeds other)) (subst (λ (l : List _). AreActions f after l) (sym (append-nil front)) (acts [] start)) in
       record {
         ok = turned-down (event.Packet sender by bytes) after r first all keeps;
-        any_moment = λ it. rest-reached (event.Packet sender by bytes) (leaves it);
+        any_moment = λ it. rest-reached g f s h k (book_of node) (book_of node) (event.Packet sender by bytes) (leaves it);
         without_memory = λ q due needs. refl;
       }
 
   -- or there was no memory for it
   pub refused-unhandled : (sender : ℕ) (by : Channel) (bytes : Vec ℕ Global) (r : Refusal) (why : NodeFault) (after : List (Action S D P G C)) → IsFirst (tests g f s h (event.Packet sender by bytes)) (Some r) → blocks_sender r ≡ true
-      → (k.keeps → LeavesOnly (k.calls (disk_of node)) (k.calls (disk_of node)) (λ image. Reads image (map f.artifact (record_of h))))
+      → (k.keeps → LeaveBook k (book_of node) (book_of node) (λ read. read ≡ map f.artifact (record_of h)))
       → IsHandled g e k f s node node h (event.Packet sender by bytes) after (Err why)
   refused-unhandled sender by bytes r why after first memory leaves = record {
     ok = tt;
-    any_moment = λ it. rest-reached (event.Packet sender by bytes) (leaves it);
+    any_moment = λ it. rest-reached g f s h k (book_of node) (book_of node) (event.Packet sender by bytes) (leaves it);
     without_memory = λ q due needs. absurd (cc (blocks-needs r memory, first-is-one (tests g f s h (event.Packet sender by bytes)) (Some r) (Some q) first due, needs));
   }

@@ -3,7 +3,7 @@ use Rattle.std.specs.Prelude.{◌≡◌, ◌∷◌, [], true, List, Option, Some
 use Rattle.types_core.specs.declared.scheme.Scheme.{Ghosts}
 use Rattle.types_terms.specs.declared.elector.Elector as elector
 use Rattle.journal_single.specs.declared.disk.Disk as disk
-use Rattle.journal_single.specs.Disk.{LeavesOnly}
+use Rattle.journal_books.specs.Books.{LeaveBook}
 use Rattle.simplex_member.specs.declared.action.Action.{Action}
 use Rattle.simplex_member.specs.declared.action.Reply.{Reply}
 use Rattle.simplex_member.specs.declared.event.Event.{Event}
@@ -17,7 +17,7 @@ use Rattle.simplex_member.specs.Point.{Point, History}
 use Rattle.simplex_member.specs.Refusals.{needs_nothing, refused_deeds, tests}
 use Rattle.simplex_member.specs.Setup.{Setup}
 use Rattle.node_core.specs.declared.node_state.Core.{Core}
-use Rattle.node_core.specs.Keeps.{CoreKeeps, disk_of}
+use Rattle.node_core.specs.Keeps.{CoreKeeps, book_of}
 
 module _ {S D P G C : Type 0} (g : Ghosts S D P G C) (f : Formats S D P G C) (s : Setup S D C) where
   -- an event is taken, and what it brings is done and handed out; of what is due behind it nothing is yet
@@ -44,11 +44,11 @@ module _ {S L D P G C K : Type 0} (g : Ghosts S D P G C) (e : elector.Ghosts L S
   -- told where it is the first reason
   pub record IsAnswered (old new : Core S L D K P G C) (h : History S D P G C) (event : Event D) (answer : Result (Reply S D P G C) NodeFault) : Type 0 where
     pub ok : IfOk answer (λ reply. (end : History S D P G C) × StepsAtOnce g f s h event reply end × CoreKeeps g e k f s new end)
-    pub any_moment : k.keeps → LeavesOnly (k.calls (disk_of old)) (k.calls (disk_of new)) (IsReached g f s h event)
+    pub any_moment : k.keeps → LeaveBook k (book_of old) (book_of new) (IsReached g f s h event)
     pub without_memory : (r : Refusal) → IsFirst (tests g f s h event) (Some r) → needs_nothing r ≡ true → IsOk answer
 
   -- the same of what is answered beside the actions: why the event is refused, if it is
   pub record IsHandled (old new : Core S L D K P G C) (h : History S D P G C) (event : Event D) (actions : List (Action S D P G C)) (answer : Result (Option Refusal) NodeFault) : Type 0 where
     pub ok : IfOk answer (λ refused. (end : History S D P G C) × StepsBy g f s h event refused actions end × CoreKeeps g e k f s new end)
-    pub any_moment : k.keeps → LeavesOnly (k.calls (disk_of old)) (k.calls (disk_of new)) (IsReached g f s h event)
+    pub any_moment : k.keeps → LeaveBook k (book_of old) (book_of new) (IsReached g f s h event)
     pub without_memory : (r : Refusal) → IsFirst (tests g f s h event) (Some r) → needs_nothing r ≡ true → IsOk answer

@@ -12,7 +12,7 @@ ghost use Rattle.simplex_member.specs.Point.{History};
 ghost use Rattle.simplex_member.specs.Setup.{Setup};
 ghost use Rattle.node_record.specs.Tables.{build_parts};
 ghost use Rattle.node_input.specs.Answering.{TakesAnswer, TakesEvent};
-ghost use Rattle.node_core.specs.Keeps.{AtOwn, disk_of};
+ghost use Rattle.node_core.specs.Keeps.{AtOwn, book_of};
 
 use journal_single::Disk;
 use node_core::Core;
@@ -73,7 +73,7 @@ pub(crate) fn take_built<S: Scheme<D> + Drop, L: Elector<S, D>, D: Digest, K: Di
     ensures taken { OnOk result (AtOwn S.Scheme L.Elector K.Disk ⟦<S as Speaks<D>>⟧.formats core.old (λ f s h.
         build_at h number ≡ Some (build_parts building)
         → TakesEvent S.Scheme L.Elector K.Disk f s core.new h (event.Built number payload) out.old.items out.new.items)) }
-    ensures disk { disk_of core.new ≡ disk_of core.old }
+    ensures book { book_of core.new ≡ book_of core.old }
     ensures fault { IfErr result (λ why. why ≡ step_fault.Memory) }
 {
     match payload {
@@ -93,7 +93,7 @@ fn take_payload<S: Scheme<D> + Drop, L: Elector<S, D>, D: Digest, K: Disk>(
     ensures taken { OnOk result (AtOwn S.Scheme L.Elector K.Disk ⟦<S as Speaks<D>>⟧.formats core.old (λ f s h.
         build_at h number ≡ Some (build_parts building)
         → TakesEvent S.Scheme L.Elector K.Disk f s core.new h (event.Built number (Some payload)) out.old.items out.new.items)) }
-    ensures disk { disk_of core.new ≡ disk_of core.old }
+    ensures book { book_of core.new ≡ book_of core.old }
     ensures fault { IfErr result (λ why. why ≡ step_fault.Memory) }
 {
     silent_points_leave_votes::<S, D>();
@@ -119,7 +119,7 @@ fn take_no_payload<S: Scheme<D> + Drop, L: Elector<S, D>, D: Digest, K: Disk>(
         build_at h number ≡ Some (build_parts building)
         → (actions : List (Action S D S.PublicKey S.Signature S.Certificate))
         → TakesEvent S.Scheme L.Elector K.Disk f s core.new h (event.Built number None) actions actions)) }
-    ensures disk { disk_of core.new ≡ disk_of core.old }
+    ensures book { book_of core.new ≡ book_of core.old }
     ensures fault { IfErr result (λ why. why ≡ step_fault.Memory) }
 {
     silent_points_leave_votes::<S, D>();
@@ -151,7 +151,7 @@ pub(crate) fn take_checked<S: Scheme<D> + Drop, L: Elector<S, D>, D: Digest, K: 
         check_at h number ≡ Some view
         → (actions : List (Action S D S.PublicKey S.Signature S.Certificate))
         → TakesEvent S.Scheme L.Elector K.Disk f s core.new h (event.Checked number answer) actions actions)) }
-    ensures disk { disk_of core.new ≡ disk_of core.old }
+    ensures book { book_of core.new ≡ book_of core.old }
     ensures fault { IfErr result (λ why. why ≡ step_fault.Memory) }
 {
     silent_points_leave_votes::<S, D>();

@@ -5,7 +5,7 @@ ghost use Rattle.simplex_member.specs.declared.fault.NodeFault.TheVariants as st
 ghost use Rattle.simplex_member.specs.Packet.{Formats};
 ghost use Rattle.node_outbox.specs.Handing.{AddsDeeds};
 ghost use Rattle.node_input.specs.Hearing.{IsHeard, admission_deeds};
-ghost use Rattle.node_core.specs.Keeps.{AtOwn, disk_of};
+ghost use Rattle.node_core.specs.Keeps.{AtOwn, book_of};
 ghost use Rattle.node_input.specs.Refusing.{IsAnother, MayBeHeard};
 
 use journal_single::Disk;
@@ -35,7 +35,7 @@ pub(crate) fn take_vote<S: Scheme<D> + Drop, L: Elector<S, D>, D: Digest, K: Dis
         IsAnother S.Scheme f s sender
         → MayBeHeard S.Scheme f s h sender vote
         → IsHeard S.Scheme L.Elector K.Disk f s core.new h sender vote refused out.old.items out.new.items)) }
-    ensures disk { disk_of core.new ≡ disk_of core.old }
+    ensures book { book_of core.new ≡ book_of core.old }
     ensures fault { IfErr result (λ why. why ≡ step_fault.Memory) }
 {
     let admission = match core.acceptance.hear(sender, vote) {

@@ -9,7 +9,7 @@ ghost use Rattle.simplex_member.specs.Packet.{Formats};
 ghost use Rattle.simplex_member.specs.Refusals.{blocks_sender};
 ghost use Rattle.node_outbox.specs.Handing.{AddsDeeds};
 ghost use Rattle.node_input.specs.Deciding.{IsDecided};
-ghost use Rattle.node_core.specs.Keeps.{AtOwn, disk_of};
+ghost use Rattle.node_core.specs.Keeps.{AtOwn, disks_of};
 ghost use Rattle.node_input.specs.Refusing.{bytes_tests};
 ghost use Rattle.node_input.specs.Stepping.{IsHandled};
 ghost use Rattle.node_core.specs.Telling.{TellsOfDisk};
@@ -28,6 +28,7 @@ use types_core::{Digest, Participant, Scheme};
 use types_terms::Elector;
 
 /// A packet is refused, for the reason that is answered, or taken, and what that brings is handed out.
+#[tactic(auto, using(journal_books::specs::BooksLaws::same_not_failed))]
 pub(crate) fn handle_packet<S: Scheme<D> + Drop, L: Elector<S, D>, D: Digest, K: Disk>(
     core: &mut Core<S, L, D, K>,
     sender: Participant,
@@ -38,7 +39,7 @@ pub(crate) fn handle_packet<S: Scheme<D> + Drop, L: Elector<S, D>, D: Digest, K:
     ensures handled { AtOwn S.Scheme L.Elector K.Disk ⟦<S as Speaks<D>>⟧.formats core.old (λ f s h.
         out.old.items ≡ []
         → IsHandled S.Scheme L.Elector K.Disk f s core.old core.new h (event.Packet sender channel bytes) out.new.items result) }
-    ensures faults { TellsOfDisk K.Disk (disk_of core.old) (disk_of core.new) result }
+    ensures faults { TellsOfDisk K.Disk (disks_of core.old) (disks_of core.new) result }
 {
     a_ledger_at_rest_leaves_its_record::<S, D, K>();
     match decide(core, sender, channel, &bytes) {
@@ -48,6 +49,7 @@ pub(crate) fn handle_packet<S: Scheme<D> + Drop, L: Elector<S, D>, D: Digest, K:
 }
 
 /// Does what was decided of a packet of these bytes.
+#[tactic(auto, using(journal_books::specs::BooksLaws::same_not_failed))]
 fn handle_decided<S: Scheme<D> + Drop, L: Elector<S, D>, D: Digest, K: Disk>(
     core: &mut Core<S, L, D, K>,
     sender: Participant,
@@ -61,7 +63,7 @@ fn handle_decided<S: Scheme<D> + Drop, L: Elector<S, D>, D: Digest, K: Disk>(
         → IsDecided S.Scheme f s h sender (f.packet_in by bytes.items) (bytes_tests S.Scheme f s h sender by bytes.items) decided
         → out.old.items ≡ []
         → IsHandled S.Scheme L.Elector K.Disk f s core.old core.new h (event.Packet sender by bytes) out.new.items result) }
-    ensures faults { TellsOfDisk K.Disk (disk_of core.old) (disk_of core.new) result }
+    ensures faults { TellsOfDisk K.Disk (disks_of core.old) (disks_of core.new) result }
 {
     a_ledger_at_rest_leaves_its_record::<S, D, K>();
     match decided {

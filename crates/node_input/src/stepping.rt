@@ -2,7 +2,7 @@
 
 ghost use Rattle.std.specs.Prelude.{◌≡◌, []};
 ghost use Rattle.simplex_member.specs.declared.event.Event.TheVariants as event;
-ghost use Rattle.node_core.specs.Keeps.{AtOwn, disk_of};
+ghost use Rattle.node_core.specs.Keeps.{AtOwn, disks_of};
 ghost use Rattle.node_input.specs.Stepping.{IsAnswered, IsHandled};
 ghost use Rattle.node_core.specs.Telling.{TellsOfDisk};
 
@@ -19,13 +19,14 @@ use types_core::{Digest, Scheme, View};
 use types_terms::Elector;
 
 /// The reply to an event: it is refused or taken, and what it brings is handed out.
+#[tactic(auto, using(journal_books::specs::BooksLaws::same_not_failed))]
 pub fn answer<S: Scheme<D> + Drop, L: Elector<S, D>, D: Digest, K: Disk>(
     core: &mut Core<S, L, D, K>,
     event: Event<D>,
 ) -> Result<Reply<S, D>, NodeFault>
     ensures answered { AtOwn S.Scheme L.Elector K.Disk ⟦<S as Speaks<D>>⟧.formats core.old
         (λ f s h. IsAnswered S.Scheme L.Elector K.Disk f s core.old core.new h event result) }
-    ensures faults { TellsOfDisk K.Disk (disk_of core.old) (disk_of core.new) result }
+    ensures faults { TellsOfDisk K.Disk (disks_of core.old) (disks_of core.new) result }
 {
     let mut actions = Vec::new(core.settings.alloc);
     match handle(core, event, &mut actions) {
@@ -35,6 +36,7 @@ pub fn answer<S: Scheme<D> + Drop, L: Elector<S, D>, D: Digest, K: Disk>(
 }
 
 /// An event is refused, for the reason that is answered, or taken, and what that brings is handed out.
+#[tactic(auto, using(journal_books::specs::BooksLaws::same_not_failed))]
 fn handle<S: Scheme<D> + Drop, L: Elector<S, D>, D: Digest, K: Disk>(
     core: &mut Core<S, L, D, K>,
     event: Event<D>,
@@ -42,7 +44,7 @@ fn handle<S: Scheme<D> + Drop, L: Elector<S, D>, D: Digest, K: Disk>(
 ) -> Result<Option<Refusal>, NodeFault>
     ensures handled { AtOwn S.Scheme L.Elector K.Disk ⟦<S as Speaks<D>>⟧.formats core.old
         (λ f s h. out.old.items ≡ [] → IsHandled S.Scheme L.Elector K.Disk f s core.old core.new h event out.new.items result) }
-    ensures faults { TellsOfDisk K.Disk (disk_of core.old) (disk_of core.new) result }
+    ensures faults { TellsOfDisk K.Disk (disks_of core.old) (disks_of core.new) result }
 {
     match event {
         Event::Packet {
@@ -58,6 +60,7 @@ fn handle<S: Scheme<D> + Drop, L: Elector<S, D>, D: Digest, K: Disk>(
 }
 
 /// What was built under a number is refused, or taken.
+#[tactic(auto, using(journal_books::specs::BooksLaws::same_not_failed))]
 fn handle_built<S: Scheme<D> + Drop, L: Elector<S, D>, D: Digest, K: Disk>(
     core: &mut Core<S, L, D, K>,
     number: u64,
@@ -66,7 +69,7 @@ fn handle_built<S: Scheme<D> + Drop, L: Elector<S, D>, D: Digest, K: Disk>(
 ) -> Result<Option<Refusal>, NodeFault>
     ensures handled { AtOwn S.Scheme L.Elector K.Disk ⟦<S as Speaks<D>>⟧.formats core.old (λ f s h.
         out.old.items ≡ [] → IsHandled S.Scheme L.Elector K.Disk f s core.old core.new h (event.Built number payload) out.new.items result) }
-    ensures faults { TellsOfDisk K.Disk (disk_of core.old) (disk_of core.new) result }
+    ensures faults { TellsOfDisk K.Disk (disks_of core.old) (disks_of core.new) result }
 {
     a_ledger_at_rest_leaves_its_record::<S, D, K>();
     let Some(building) = core.tables.build(number) else {
@@ -79,6 +82,7 @@ fn handle_built<S: Scheme<D> + Drop, L: Elector<S, D>, D: Digest, K: Disk>(
 }
 
 /// What was found of the proposal that is verified under a number is refused, or taken. Nothing is handed out for it.
+#[tactic(auto, using(journal_books::specs::BooksLaws::same_not_failed))]
 fn handle_checked<S: Scheme<D> + Drop, L: Elector<S, D>, D: Digest, K: Disk>(
     core: &mut Core<S, L, D, K>,
     number: u64,
@@ -86,7 +90,7 @@ fn handle_checked<S: Scheme<D> + Drop, L: Elector<S, D>, D: Digest, K: Disk>(
 ) -> Result<Option<Refusal>, NodeFault>
     ensures handled { AtOwn S.Scheme L.Elector K.Disk ⟦<S as Speaks<D>>⟧.formats core.old
         (λ f s h. IsHandled S.Scheme L.Elector K.Disk f s core.old core.new h (event.Checked number answer) [] result) }
-    ensures faults { TellsOfDisk K.Disk (disk_of core.old) (disk_of core.new) result }
+    ensures faults { TellsOfDisk K.Disk (disks_of core.old) (disks_of core.new) result }
 {
     a_ledger_at_rest_leaves_its_record::<S, D, K>();
     let Some(view) = core.tables.check(number) else {
@@ -99,6 +103,7 @@ fn handle_checked<S: Scheme<D> + Drop, L: Elector<S, D>, D: Digest, K: Disk>(
 }
 
 /// A verdict is refused, or taken.
+#[tactic(auto, using(journal_books::specs::BooksLaws::same_not_failed))]
 fn handle_verdict<S: Scheme<D> + Drop, L: Elector<S, D>, D: Digest, K: Disk>(
     core: &mut Core<S, L, D, K>,
     view: View,
@@ -107,7 +112,7 @@ fn handle_verdict<S: Scheme<D> + Drop, L: Elector<S, D>, D: Digest, K: Disk>(
 ) -> Result<Option<Refusal>, NodeFault>
     ensures handled { AtOwn S.Scheme L.Elector K.Disk ⟦<S as Speaks<D>>⟧.formats core.old (λ f s h.
         out.old.items ≡ [] → IsHandled S.Scheme L.Elector K.Disk f s core.old core.new h (event.Verdict view ok) out.new.items result) }
-    ensures faults { TellsOfDisk K.Disk (disk_of core.old) (disk_of core.new) result }
+    ensures faults { TellsOfDisk K.Disk (disks_of core.old) (disks_of core.new) result }
 {
     a_ledger_at_rest_leaves_its_record::<S, D, K>();
     if let Some(refusal) = verdict_refusal(core, view) {
@@ -120,13 +125,14 @@ fn handle_verdict<S: Scheme<D> + Drop, L: Elector<S, D>, D: Digest, K: Disk>(
 }
 
 /// A moment is refused, or taken. Nothing is handed out for it.
+#[tactic(auto, using(journal_books::specs::BooksLaws::same_not_failed))]
 fn handle_moment<S: Scheme<D> + Drop, L: Elector<S, D>, D: Digest, K: Disk>(
     core: &mut Core<S, L, D, K>,
     now: u64,
 ) -> Result<Option<Refusal>, NodeFault>
     ensures handled { AtOwn S.Scheme L.Elector K.Disk ⟦<S as Speaks<D>>⟧.formats core.old
         (λ f s h. IsHandled S.Scheme L.Elector K.Disk f s core.old core.new h (event.Moment now) [] result) }
-    ensures faults { TellsOfDisk K.Disk (disk_of core.old) (disk_of core.new) result }
+    ensures faults { TellsOfDisk K.Disk (disks_of core.old) (disks_of core.new) result }
 {
     a_ledger_at_rest_leaves_its_record::<S, D, K>();
     if let Some(refusal) = moment_refusal(core, now) {

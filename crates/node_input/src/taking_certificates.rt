@@ -1,13 +1,13 @@
 //! Certificates that came.
 
 ghost use Rattle.std.specs.Prelude.{◌≡◌, ◌≢◌, ◌∷◌, false, IfErr, OnOk, IsErrOf};
-ghost use Rattle.journal_single.specs.Disk.{LeavesOnly, counted};
+ghost use Rattle.journal_books.specs.Books.{HasFailed, HasNotFailed, LeaveBook};
 ghost use Rattle.simplex_member.specs.Allowed.{Allowed};
 ghost use Rattle.simplex_member.specs.declared.fault.NodeFault.{NodeFault};
 ghost use Rattle.simplex_member.specs.declared.fault.NodeFault.TheVariants as step_fault;
 ghost use Rattle.simplex_member.specs.Packet.{of_certificate};
 ghost use Rattle.simplex_member.specs.Point.{Came};
-ghost use Rattle.node_core.specs.Keeps.{AtOwn, CoreKeeps, disk_of};
+ghost use Rattle.node_core.specs.Keeps.{AtOwn, CoreKeeps, book_of, disks_of};
 ghost use Rattle.node_core.specs.Taking.{IsLeftBy, IsTaken};
 
 use journal_single::Disk;
@@ -25,6 +25,7 @@ use types_terms::Elector;
 /// # Errors
 ///
 /// [`NodeFault::Memory`] and [`NodeFault::Device`]. Then the record is the one before, or has the certificate.
+#[tactic(auto, using(journal_books::specs::BooksLaws::same_not_failed))]
 pub(crate) fn take_certificate<S: Scheme<D> + Drop, L: Elector<S, D>, D: Digest, K: Disk>(
     core: &mut Core<S, L, D, K>,
     certificate: Certificate<S, D>,
@@ -40,12 +41,12 @@ pub(crate) fn take_certificate<S: Scheme<D> + Drop, L: Elector<S, D>, D: Digest,
     ensures any_moment { AtOwn S.Scheme L.Elector K.Disk ⟦<S as Speaks<D>>⟧.formats core.old (λ f s h.
         Allowed S.Scheme f s h (Came certificate)
         → K.keeps
-        → LeavesOnly (K.calls (disk_of core.old)) (K.calls (disk_of core.new)) (IsLeftBy S.Scheme f s h (Came certificate))) }
+        → LeaveBook K.Disk (book_of core.old) (book_of core.new) (IsLeftBy S.Scheme f s h (Came certificate))) }
 
-    // The disk has failed once more exactly where that is told.
-    ensures device { IsErrOf result NodeFault.Device → K.failed (disk_of core.new) ≡ counted false (K.failed (disk_of core.old)) }
-    ensures no_device { IfErr result (λ why. why ≢ step_fault.Device → K.failed (disk_of core.new) ≡ K.failed (disk_of core.old)) }
-    ensures no_fault { OnOk result (K.failed (disk_of core.new) ≡ K.failed (disk_of core.old)) }
+    // A disk has failed once more exactly where that is told.
+    ensures device { IsErrOf result NodeFault.Device → HasFailed K.Disk (disks_of core.old) (disks_of core.new) }
+    ensures no_device { IfErr result (λ why. why ≢ step_fault.Device → HasNotFailed K.Disk (disks_of core.old) (disks_of core.new)) }
+    ensures no_fault { OnOk result (HasNotFailed K.Disk (disks_of core.old) (disks_of core.new)) }
     ensures not_failed { ¬ IsErrOf result NodeFault.Failed }
 {
     let was = core.voter.current_view();
@@ -57,6 +58,7 @@ pub(crate) fn take_certificate<S: Scheme<D> + Drop, L: Elector<S, D>, D: Digest,
 }
 
 /// All layers learn of a certificate that passed all tests, and it is recorded.
+#[tactic(auto, using(journal_books::specs::BooksLaws::same_not_failed))]
 fn learn<S: Scheme<D> + Drop, L: Elector<S, D>, D: Digest, K: Disk>(
     core: &mut Core<S, L, D, K>,
     certificate: &Certificate<S, D>,
@@ -66,10 +68,10 @@ fn learn<S: Scheme<D> + Drop, L: Elector<S, D>, D: Digest, K: Disk>(
     ensures any_moment { AtOwn S.Scheme L.Elector K.Disk ⟦<S as Speaks<D>>⟧.formats core.old (λ f s h.
         Allowed S.Scheme f s h (Came certificate.now)
         → K.keeps
-        → LeavesOnly (K.calls (disk_of core.old)) (K.calls (disk_of core.new)) (IsLeftBy S.Scheme f s h (Came certificate.now))) }
-    ensures device { IsErrOf result NodeFault.Device → K.failed (disk_of core.new) ≡ counted false (K.failed (disk_of core.old)) }
-    ensures no_device { IfErr result (λ why. why ≢ step_fault.Device → K.failed (disk_of core.new) ≡ K.failed (disk_of core.old)) }
-    ensures no_fault { OnOk result (K.failed (disk_of core.new) ≡ K.failed (disk_of core.old)) }
+        → LeaveBook K.Disk (book_of core.old) (book_of core.new) (IsLeftBy S.Scheme f s h (Came certificate.now))) }
+    ensures device { IsErrOf result NodeFault.Device → HasFailed K.Disk (disks_of core.old) (disks_of core.new) }
+    ensures no_device { IfErr result (λ why. why ≢ step_fault.Device → HasNotFailed K.Disk (disks_of core.old) (disks_of core.new)) }
+    ensures no_fault { OnOk result (HasNotFailed K.Disk (disks_of core.old) (disks_of core.new)) }
     ensures not_failed { ¬ IsErrOf result NodeFault.Failed }
 {
     what_is_not_recorded_is_unknown::<S, D>();

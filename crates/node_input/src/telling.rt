@@ -4,7 +4,7 @@ ghost use Rattle.std.specs.Prelude.{◌≡◌, ◌≤◌, ◌∷◌};
 ghost use Rattle.simplex_member.specs.Layers.{latest};
 ghost use Rattle.simplex_member.specs.Point.{Told};
 ghost use Rattle.simplex_member.specs.Setup.{IsInTime};
-ghost use Rattle.node_core.specs.Keeps.{AtAll, CoreKeeps, disk_of};
+ghost use Rattle.node_core.specs.Keeps.{AtAll, CoreKeeps, book_of};
 
 use journal_single::Disk;
 use node_core::Core;
@@ -19,7 +19,7 @@ pub(crate) fn take_moment<S: Scheme<D> + Drop, L: Elector<S, D>, D: Digest, K: D
 )
     ensures taken { AtAll S.Scheme L.Elector K.Disk core.old (λ f s h.
         f.same ≡ D.PartialEq.eq → latest h ≤ now → IsInTime s now → CoreKeeps S.Scheme L.Elector K.Disk f s core.new (Told now ∷ h)) }
-    ensures disk { disk_of core.new ≡ disk_of core.old }
+    ensures book { book_of core.new ≡ book_of core.old }
 {
     silent_points_leave_votes::<S, D>();
     core.tables.tell(now);

@@ -7,7 +7,7 @@ ghost use Rattle.messages_certificates.specs.ProposalCertificate.{Notarization};
 ghost use Rattle.simplex_messages.specs.declared.activity.Activity.TheVariants as activity;
 ghost use Rattle.simplex_resolver.specs.Keeps as repairing;
 ghost use Rattle.simplex_resolver.specs.RepairHistory as items;
-ghost use Rattle.journal_single.specs.Disk.{LeavesOnly, counted};
+ghost use Rattle.journal_books.specs.Books.{HasFailed, HasNotFailed, LeaveBook};
 ghost use Rattle.simplex_member.specs.Allowed.{Allowed};
 ghost use Rattle.simplex_member.specs.Asked.{IsAwaited};
 ghost use Rattle.simplex_member.specs.declared.fault.NodeFault.{NodeFault};
@@ -17,7 +17,7 @@ ghost use Rattle.simplex_member.specs.Packet.{Formats};
 ghost use Rattle.simplex_member.specs.Point.{History, Judged};
 ghost use Rattle.simplex_member.specs.Setup.{Setup};
 ghost use Rattle.node_outbox.specs.Handing.{AddsDeeds};
-ghost use Rattle.node_core.specs.Keeps.{AtOwn, disk_of};
+ghost use Rattle.node_core.specs.Keeps.{AtOwn, book_of, disks_of};
 ghost use Rattle.node_core.specs.Taking.{IsLeftBy, IsTaken};
 ghost use Rattle.node_input.specs.Verdicts.{RecordIsAhead};
 
@@ -42,6 +42,7 @@ use types_terms::Elector;
 /// # Errors
 ///
 /// [`NodeFault::Memory`] and [`NodeFault::Device`]. Then the record is the one before, or has the verdict.
+#[tactic(auto, using(journal_books::specs::BooksLaws::same_not_failed))]
 pub(crate) fn take_verdict<S: Scheme<D> + Drop, L: Elector<S, D>, D: Digest, K: Disk>(
     core: &mut Core<S, L, D, K>,
     view: View,
@@ -57,13 +58,13 @@ pub(crate) fn take_verdict<S: Scheme<D> + Drop, L: Elector<S, D>, D: Digest, K: 
     ensures any_moment { AtOwn S.Scheme L.Elector K.Disk ⟦<S as Speaks<D>>⟧.formats core.old (λ f s h.
         IsAwaited s h view
         → K.keeps
-        → LeavesOnly (K.calls (disk_of core.old)) (K.calls (disk_of core.new))
+        → LeaveBook K.Disk (book_of core.old) (book_of core.new)
         (IsLeftBy S.Scheme f s h (Judged (record { epoch = s.voter.epoch; view = view }) ok))) }
 
-    // The disk has failed once more exactly where that is told.
-    ensures device { IsErrOf result NodeFault.Device → K.failed (disk_of core.new) ≡ counted false (K.failed (disk_of core.old)) }
-    ensures no_device { IfErr result (λ why. why ≢ step_fault.Device → K.failed (disk_of core.new) ≡ K.failed (disk_of core.old)) }
-    ensures no_fault { OnOk result (K.failed (disk_of core.new) ≡ K.failed (disk_of core.old)) }
+    // A disk has failed once more exactly where that is told.
+    ensures device { IsErrOf result NodeFault.Device → HasFailed K.Disk (disks_of core.old) (disks_of core.new) }
+    ensures no_device { IfErr result (λ why. why ≢ step_fault.Device → HasNotFailed K.Disk (disks_of core.old) (disks_of core.new)) }
+    ensures no_fault { OnOk result (HasNotFailed K.Disk (disks_of core.old) (disks_of core.new)) }
     ensures not_failed { ¬ IsErrOf result NodeFault.Failed }
 {
     awaited_verdicts_may_be_taken::<S, D>();
@@ -91,7 +92,7 @@ fn learn_verdict<S: Scheme<D> + Drop, L: Elector<S, D>, D: Digest, K: Disk>(
         → Allowed S.Scheme (⟦<S as Speaks<D>>⟧.formats (S.size s.voter.scheme)) s h (Judged (record { epoch = s.voter.epoch; view = view }) ok)
         → IsTaken S.Scheme L.Elector K.Disk (⟦<S as Speaks<D>>⟧.formats (S.size s.voter.scheme)) s core.new h
         (Judged (record { epoch = s.voter.epoch; view = view }) ok) out.old.items out.new.items) }
-    ensures disk { disk_of core.new ≡ disk_of core.old }
+    ensures book { book_of core.new ≡ book_of core.old }
     ensures fault { IfErr result (λ why. why ≡ step_fault.Memory) }
 {
     awaited_verdicts_may_be_taken::<S, D>();

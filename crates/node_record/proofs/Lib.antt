@@ -3,7 +3,6 @@ pub mod Nullifies
 pub mod Lasting
 pub mod Likes
 pub mod Judging
-pub mod Resting
 pub mod Adding
 pub mod Asking
 pub mod Firsts

@@ -8,16 +8,17 @@ ghost use Rattle.messages_certificates.specs.declared.nullify.Nullify.{Nullify};
 ghost use Rattle.simplex_record.specs.declared.owner.Owner.{Owner};
 ghost use Rattle.simplex_record.specs.Record.{current_view, entries};
 ghost use Rattle.simplex_record.specs.Lawful.{IsLawful};
-ghost use Rattle.journal_single.specs.Disk.{LeavesOnly};
-ghost use Rattle.journal_single.specs.Record.{Reads};
+ghost use Rattle.journal_books.specs.Books.{LeaveBook};
 ghost use Rattle.simplex_member.specs.Point.{History, Point};
 ghost use Rattle.node_record.specs.declared.ledger.Ledger.{Ledger};
 ghost use Rattle.node_record.specs.declared.tables.Tables.{Tables};
-ghost use Rattle.node_record.specs.Ledger.{KeepsRecord, disk_of};
+ghost use Rattle.node_record.specs.Ledger.{KeepsRecord, book_of};
 ghost use Rattle.node_record.specs.Recorded.{IsLastNullifyOf};
 ghost use Rattle.node_record.specs.Tables.{KeepsTables, is_quiet};
 
-use journal_single::Disk;
+use journal_books::a_book_at_rest_leaves_its_record;
+use messages_certificates::Artifact;
+use simplex_journal::Disk;
 use types_core::{Digest, Scheme};
 
 /// Where a lawful record has an own nullify of the current view, that is the last own nullify. So the one that
@@ -41,12 +42,14 @@ pub fn quiet_points_leave_the_tables<S: Scheme<D>, D: Digest>()
         → KeepsTables low tables (p ∷ h) }
 {}
 
-/// While nothing is asked of its disk, a crash leaves the record that a ledger holds.
+/// While nothing is asked of its disks, a crash leaves the record that a ledger holds.
 pub fn a_ledger_at_rest_leaves_its_record<S: Scheme<D>, D: Digest, K: Disk>()
     ensures { (owner : Owner) (ledger : Ledger S D K S.PublicKey S.Signature S.Certificate)
         (xs : List (Artifact S D S.PublicKey S.Signature S.Certificate))
         → KeepsRecord K.Disk (artifact_spelling D.spelling S.Signature.spelling S.Certificate.spelling) owner ledger xs
         → K.keeps
-        → LeavesOnly (K.calls (disk_of ledger)) (K.calls (disk_of ledger))
-        (λ image. Reads image (map (artifact_spelling D.spelling S.Signature.spelling S.Certificate.spelling) xs)) }
-{}
+        → LeaveBook K.Disk (book_of ledger) (book_of ledger)
+        (λ read. read ≡ map (artifact_spelling D.spelling S.Signature.spelling S.Certificate.spelling) xs) }
+{
+    a_book_at_rest_leaves_its_record::<Artifact<S, D>, K>();
+}

@@ -1,4 +1,4 @@
-//! What a member has recorded, on its disk and at hand, and what it remembers of what it asked for.
+//! What a member has recorded, on its disks and at hand, and what it remembers of what it asked for.
 #![tactic(auto)]
 
 mod laws;

@@ -9,9 +9,11 @@ use Rattle.types_core.specs.declared.scheme.Scheme.{Ghosts}
 use Rattle.messages_certificates.specs.declared.artifact.Artifact.{Artifact}
 use Rattle.types_terms.specs.declared.elector.Elector as elector
 use Rattle.journal_single.specs.declared.disk.Disk as disk
-use Rattle.journal_single.specs.Disk.{Call, LeavesOnly}
-use Rattle.journal_single.specs.Moments.{and_then, weaker}
-use Rattle.journal_single.specs.Record.{Reads}
+use Rattle.journal_books.specs.declared.books.Books.{Books}
+use Rattle.journal_books.specs.declared.disks.Disks.{Disks}
+use Rattle.journal_books.specs.Books as words
+use Rattle.journal_books.specs.Books.{Leave, LeaveBook, LeaveSince, MayBeRead}
+use Rattle.journal_books.specs.BooksLaws.{book_then, book_weaker, since_leaves, since_then, since_weaker}
 use Rattle.simplex_member.specs.declared.action.Action.{Action}
 use Rattle.simplex_member.specs.declared.action.Reply.{Reply}
 use Rattle.simplex_member.specs.declared.event.Event.{Event}
@@ -30,9 +32,9 @@ use Rattle.simplex_member.specs.Setup.{Setup}
 use Rattle.node_core.specs.GoingThrough as reading
 use Rattle.node_core.specs.declared.node_state.Core.{Core}
 use Rattle.node_due.specs.Acting.{HasSettled, IsLeftByActs, WasSettled}
-use Rattle.node_core.specs.Keeps.{CoreKeeps, disk_of}
+use Rattle.node_core.specs.Keeps.{CoreKeeps, book_of}
 use Rattle.node_steps.specs.declared.node.Node.{Node}
-use Rattle.node_steps.specs.Opening.{IsOpen, IsOpenAndSettled, MayBeLeft, MayBeLeftOpen, early}
+use Rattle.node_steps.specs.Opening.{IsOpen, IsOpenAndSettled, MayBeLeftOpen, early}
 use Rattle.node_steps.specs.Stepping.{GoesOn, IsAnsweredWhole}
 use Rattle.node_input.specs.Stepping.{IsAnswered, StepsAtOnce, TakesAtOnce}
 use Rattle.node_due.specs.ActsBehind.{are_acts, goes_behind, last_behind}
@@ -66,8 +68,8 @@ module _ {S D P G C : Type 0} (g : Ghosts S D P G C) (f : Formats S D P G C) (s 
   goes_on acts end goes = goes_behind g f s h mid end (taken.point ∷ []) acts taken.goes goes
 
   -- what acts behind it leave is left by the step
-  reached_by_acts : (image : List ℕ) → IsLeftByActs g f s mid image → IsReached g f s h event image
-  reached_by_acts image left = inr (taken.point ∷ left.0, left.1, step_on left.0 left.2, goes_on left.0 left.1 left.3, left.4)
+  reached_by_acts : (read : List (List ℕ)) → IsLeftByActs g f s mid read → IsReached g f s h event read
+  reached_by_acts read left = inr (taken.point ∷ left.0, left.1, step_on left.0 left.2, goes_on left.0 left.1 left.3, left.4)
 
   -- once nothing is due the event is taken whole
   takes_whole : {L K : Type 0} (e : elector.Ghosts L S D P G C) (k : disk.Ghosts K) (new : Core S L D K P G C) (after : List (Action S D P G C)) (settled : HasSettled g e k f s new mid actions after) → Takes g f s h event after settled.end
@@ -88,12 +90,12 @@ module _ {S D P G C : Type 0} (g : Ghosts S D P G C) (f : Formats S D P G C) (s 
 module _ {S L D P G C K : Type 0} (g : Ghosts S D P G C) (e : elector.Ghosts L S D P G C) (k : disk.Ghosts K) (f : Formats S D P G C) (s : Setup S D C) (h mid : History S D P G C) (event : Event D) where
   -- behind an event that was refused nothing is due
   pub refused_goes_on : (node : Core S L D K P G C) (refused : Option Refusal) (actions : Vec (Action S D P G C) Global) → IsSome refused → StepsAtOnce g f s h event (record { refused = refused; actions = actions }) mid → CoreKeeps g e k f s node mid
-      → (k.keeps → LeavesOnly (k.calls (disk_of node)) (k.calls (disk_of node)) (λ image. Reads image (map f.artifact (record_of mid))))
+      → (k.keeps → LeaveBook k (book_of node) (book_of node) (λ read. read ≡ map f.artifact (record_of mid)))
       → GoesOn g e k f s node node h mid event (Ok (record { refused = refused; actions = actions }))
   refused_goes_on node None actions is steps keeps rests = absurd (false≢true is)
   refused_goes_on node (Some r) actions is steps keeps rests = record {
     ok = (h, (steps.0, (refl, steps.1.1)), subst (λ (m : History S D P G C). CoreKeeps g e k f s node m) steps.1.0 keeps);
-    any_moment = λ it. weaker (IsReached g f s h event) (rests it) (λ image reads. inl (subst (λ (m : History S D P G C). Reads image (map f.artifact (record_of m))) steps.1.0 reads));
+    any_moment = λ it. book_weaker k (λ read. read ≡ map f.artifact (record_of mid)) (IsReached g f s h event) (λ read is. inl (is ∙ ap (λ (m : History S D P G C). map f.artifact (record_of m)) steps.1.0)) (book_of node) (book_of node) (rests it);
   }
 
   module _ (old new : Core S L D K P G C) (refused : Option Refusal) (actions : Vec (Action S D P G C) Global) where
@@ -105,7 +107,7 @@ module _ {S L D P G C K : Type 0} (g : Ghosts S D P G C) (e : elector.Ghosts L S
         by : (o : Option Refusal) → is_some o ≡ false → StepsAtOnce g f s h event (record { refused = o; actions = actions }) mid → GoesOn g e k f s old new h mid event (Ok (record { refused = o; actions = after }))
         by None none taken = record {
           ok = (settled.ok.end, (taken.0, takes_whole g f s h mid event actions.items taken.1 e k new after.items settled.ok), settled.ok.keeps);
-          any_moment = λ it. weaker (IsReached g f s h event) (settled.any_moment it) (reached_by_acts g f s h mid event actions.items taken.1);
+          any_moment = λ it. book_weaker k (IsLeftByActs g f s mid) (IsReached g f s h event) (reached_by_acts g f s h mid event actions.items taken.1) (book_of old) (book_of new) (settled.any_moment it);
         }
         by (Some r) none taken = absurd (false≢true (sym none))
 
@@ -115,7 +117,7 @@ module _ {S L D P G C K : Type 0} (g : Ghosts S D P G C) (e : elector.Ghosts L S
     failed_goes_on answer why after isnt steps settled = by refused isnt steps
       where
         by : (o : Option Refusal) → is_some o ≡ false → StepsAtOnce g f s h event (record { refused = o; actions = actions }) mid → GoesOn g e k f s old new h mid event (Err why)
-        by None none taken = record { ok = tt; any_moment = λ it. weaker (IsReached g f s h event) (settled.any_moment it) (reached_by_acts g f s h mid event actions.items taken.1) }
+        by None none taken = record { ok = tt; any_moment = λ it. book_weaker k (IsLeftByActs g f s mid) (IsReached g f s h event) (reached_by_acts g f s h mid event actions.items taken.1) (book_of old) (book_of new) (settled.any_moment it) }
         by (Some r) none taken = absurd (false≢true (sym none))
 
 module _ {S L D P G C K : Type 0} (g : Ghosts S D P G C) (e : elector.Ghosts L S D P G C) (k : disk.Ghosts K) (f : Formats S D P G C) (s : Setup S D C) (h : History S D P G C) (event : Event D) where
@@ -128,7 +130,7 @@ module _ {S L D P G C K : Type 0} (g : Ghosts S D P G C) (e : elector.Ghosts L S
       let on = next here.0 here.2 here.1 in
       record {
         ok = on.ok;
-        any_moment = λ it. and_then (answered.any_moment it) (on.any_moment it);
+        any_moment = λ it. book_then k (IsReached g f s h event) (book_of old) (book_of mid) (book_of new) (answered.any_moment it) (on.any_moment it);
         without_memory = λ r first needs. refused (subst (λ (o : Option Refusal). IsSome o) (first-is-one (tests g f s h event) (Some r) reply.refused first here.1.0) refl);
       }
 
@@ -149,8 +151,8 @@ module _ {S D P G C : Type 0} (g : Ghosts S D P G C) (f : Formats S D P G C) (s 
   }
 
   -- what acts behind it leave is left by the opening
-  opened_by_acts : (image : List ℕ) → IsLeftByActs g f s end image → IsOpened g f s now found image
-  opened_by_acts image left = (opens.points ++ left.0, left.1, opening_on left.0 left.2, goes_behind g f s [] end left.1 opens.points left.0 opens.goes left.3, left.4)
+  opened_by_acts : (read : List (List ℕ)) → IsLeftByActs g f s end read → IsOpened g f s now found read
+  opened_by_acts read left = (opens.points ++ left.0, left.1, opening_on left.0 left.2, goes_behind g f s [] end left.1 opens.points left.0 opens.goes left.3, left.4)
 
   -- once nothing is due the record is open whole
   opens_whole : {L K : Type 0} (e : elector.Ghosts L S D P G C) (k : disk.Ghosts K) (new : Core S L D K P G C) (after : List (Action S D P G C)) (settled : HasSettled g e k f s new end actions after) → Opens g f s now found after settled.end
@@ -166,7 +168,7 @@ module _ {S D P G C : Type 0} (g : Ghosts S D P G C) (f : Formats S D P G C) (s 
     };
   }
 
-module _ {S L D P G C K : Type 0} (g : Ghosts S D P G C) (e : elector.Ghosts L S D P G C) (k : disk.Ghosts K) (f : Formats S D P G C) (s : Setup S D C) (Readable : Artifact S D P G C → Type 0) (on : K) (now : ℕ) (node : Node S L D K P G C) (actions : List (Action S D P G C)) (open_is : IsOpen g e k f s Readable on now node actions) where
+module _ {S L D P G C K : Type 0} (g : Ghosts S D P G C) (e : elector.Ghosts L S D P G C) (k : disk.Ghosts K) (f : Formats S D P G C) (s : Setup S D C) (Readable : Artifact S D P G C → Type 0) (on : Disks K) (now : ℕ) (node : Node S L D K P G C) (actions : List (Action S D P G C)) (open_is : IsOpen g e k f s Readable on now node actions) where
   -- a node that is open settles
   pub open_settled : (new : Core S L D K P G C) (after : List (Action S D P G C)) → ((h : History S D P G C) → CoreKeeps g e k f s node.core h → HasSettled g e k f s new h actions after) → IsOpenAndSettled g e k f s Readable on now (record node { core = new }) after
   open_settled new after settles =
@@ -179,25 +181,39 @@ module _ {S L D P G C K : Type 0} (g : Ghosts S D P G C) (e : elector.Ghosts L S
         keeps = record { running = open_is.keeps.running; core = settled.keeps };
       }
 
-  -- what a crash leaves through both
-  pub left_open : (old mid new : List Call) → LeavesOnly old mid (MayBeLeft k on) → LeavesOnly mid new (IsLeftByActs g f s open_is.end) → LeavesOnly old new (MayBeLeftOpen g e k f s Readable on now)
-  left_open old mid new one other = and_then
-      (weaker (MayBeLeftOpen g e k f s Readable on now) one (λ image left. inl left))
-      (weaker (MayBeLeftOpen g e k f s Readable on now) other (λ image left. inr (open_is.found, open_is.are_found, opened_by_acts g f s now open_is.found actions open_is.end open_is.opens image left)))
+  -- what may be read after a crash through both
+  pub left_open : (new : Core S L D K P G C) → LeaveSince k on (book_of node.core) (MayBeRead k on) → LeaveBook k (book_of node.core) (book_of new) (IsLeftByActs g f s open_is.end)
+      → Leave k on (words.disks_of (book_of new)) (MayBeLeftOpen g e k f s Readable on now)
+  left_open new one other = since_leaves k (MayBeLeftOpen g e k f s Readable on now) on (book_of new) (λ read before. inl before)
+      (since_then k (MayBeLeftOpen g e k f s Readable on now) on (book_of node.core) (book_of new)
+      (since_weaker k (MayBeRead k on) (MayBeLeftOpen g e k f s Readable on now) (λ read before. inl before) on (book_of node.core) one)
+      (book_weaker k (IsLeftByActs g f s open_is.end) (MayBeLeftOpen g e k f s Readable on now)
+      (λ read left. inr (open_is.found, open_is.are_found, opened_by_acts g f s now open_is.found actions open_is.end open_is.opens read left)) (book_of node.core) (book_of new) other))
 
 -- the same of formats that are those of the committee's size
-pub settled_at_size : {S L D P G C K : Type 0} {g : Ghosts S D P G C} {e : elector.Ghosts L S D P G C} {k : disk.Ghosts K} {s : Setup S D C} {Readable : Artifact S D P G C → Type 0} {on : K} {now : ℕ} {node : Node S L D K P G C} {new : Core S L D K P G C} {actions after : List (Action S D P G C)} {n size : ℕ} (f : ℕ → Formats S D P G C) → n ≡ size
+pub settled_at_size : {S L D P G C K : Type 0} {g : Ghosts S D P G C} {e : elector.Ghosts L S D P G C} {k : disk.Ghosts K} {s : Setup S D C} {Readable : Artifact S D P G C → Type 0} {on : Disks K} {now : ℕ} {node : Node S L D K P G C} {new : Core S L D K P G C} {actions after : List (Action S D P G C)} {n size : ℕ} (f : ℕ → Formats S D P G C) → n ≡ size
     → ((h : History S D P G C) → CoreKeeps g e k (f size) s node.core h → HasSettled g e k (f size) s new h actions after) → IsOpen g e k (f n) s Readable on now node actions → IsOpenAndSettled g e k (f n) s Readable on now (record node { core = new }) after
 settled_at_size {g = g} {e = e} {k = k} {s = s} {Readable = Readable} {on = on} {now = now} {node = node} {new = new} {actions = actions} {after = after} {n = n} {size = size} f is settles =
     subst (λ (m : ℕ). IsOpen g e k (f m) s Readable on now node actions → IsOpenAndSettled g e k (f m) s Readable on now (record node { core = new }) after) (sym is)
     (λ open_is. open_settled g e k (f size) s Readable on now node actions open_is new after settles)
 
+-- and what may be read
+pub left_at_size : {S L D P G C K : Type 0} {g : Ghosts S D P G C} {e : elector.Ghosts L S D P G C} {k : disk.Ghosts K} {s : Setup S D C} {Readable : Artifact S D P G C → Type 0} {on : Disks K} {now : ℕ} {node : Node S L D K P G C} {actions : List (Action S D P G C)} {n size : ℕ} (new : Core S L D K P G C) (f : ℕ → Formats S D P G C) → n ≡ size
+    → ((h : History S D P G C) → CoreKeeps g e k (f size) s node.core h → LeaveBook k (book_of node.core) (book_of new) (IsLeftByActs g (f size) s h)) → IsOpen g e k (f n) s Readable on now node actions
+    → LeaveSince k on (book_of node.core) (MayBeRead k on) → Leave k on (words.disks_of (book_of new)) (MayBeLeftOpen g e k (f n) s Readable on now)
+left_at_size {g = g} {e = e} {k = k} {s = s} {Readable = Readable} {on = on} {now = now} {node = node} {actions = actions} {n = n} {size = size} new f is leaves =
+    subst (λ (m : ℕ). IsOpen g e k (f m) s Readable on now node actions → LeaveSince k on (book_of node.core) (MayBeRead k on) → Leave k on (words.disks_of (book_of new)) (MayBeLeftOpen g e k (f m) s Readable on now)) (sym is)
+    (λ open_is one. left_open g e k (f size) s Readable on now node actions open_is new one (leaves open_is.end open_is.keeps.core))
+
 -- an index that the scheme has is the one that it has
-pub left_at_index : {S L D P G C K : Type 0} {g : Ghosts S D P G C} {e : elector.Ghosts L S D P G C} {k : disk.Ghosts K} {f : Formats S D P G C} {Readable : Artifact S D P G C → Type 0} {on : K} {now : ℕ} {node : Node S L D K P G C} {actions : List (Action S D P G C)} {own : Option ℕ} {me index : ℕ} {old mid new : List Call}
-    (setup : ℕ → Setup S D C) → own ≡ Some me → own ≡ Some index → (open_is : IsOpen g e k f (setup me) Readable on now node actions) → LeavesOnly old mid (MayBeLeft k on) → LeavesOnly mid new (IsLeftByActs g f (setup me) open_is.end)
-    → LeavesOnly old new (MayBeLeftOpen g e k f (setup index) Readable on now)
-left_at_index {g = g} {e = e} {k = k} {f = f} {Readable = Readable} {on = on} {now = now} {node = node} {actions = actions} {me = me} {index = index} {old = old} {mid = mid} {new = new} setup is same open_is one other =
-    subst (λ (i : ℕ). LeavesOnly old new (MayBeLeftOpen g e k f (setup i) Readable on now)) (same_Some me index (sym is ∙ same)) (left_open g e k f (setup me) Readable on now node actions open_is old mid new one other)
+pub left_at_index : {S L D P G C K : Type 0} (g : Ghosts S D P G C) (e : elector.Ghosts L S D P G C) (k : disk.Ghosts K) (f : Formats S D P G C) (Readable : Artifact S D P G C → Type 0) (now : ℕ) {own : Option ℕ} {me index : ℕ}
+    (setup : ℕ → Setup S D C) (on back : Disks K) → own ≡ Some me → own ≡ Some index → Leave k on back (MayBeLeftOpen g e k f (setup me) Readable on now) → Leave k on back (MayBeLeftOpen g e k f (setup index) Readable on now)
+left_at_index g e k f Readable now {me = me} {index = index} setup on back is same leaves =
+    subst (λ (i : ℕ). Leave k on back (MayBeLeftOpen g e k f (setup i) Readable on now)) (same_Some me index (sym is ∙ same)) leaves
+
+-- disks that are the same are left the same
+pub left_back : {K : Type 0} (k : disk.Ghosts K) (P : List (List ℕ) → Type 0) (on back other : Disks K) → back ≡ other → Leave k on other P → Leave k on back P
+left_back {K} k P on back other is leaves = subst (λ (x : Disks K). Leave k on x P) (sym is) leaves
 
 -- that memory ran out, or the disk failed, is told by no argument
 pub told_late : (Q : OpenFault → Type 0) (why : OpenFault) → (why ≡ open_fault.Memory) ⊎ (why ≡ open_fault.Device) → IfSome (early why) Q

@@ -6,6 +6,7 @@ use Rattle.simplex_record.specs.declared.owner.Owner.{Owner}
 use Rattle.voter_rules.specs.declared.config.Config.{Config}
 use Rattle.types_terms.specs.declared.elector.Elector as elector
 use Rattle.journal_single.specs.declared.disk.Disk as disk
+use Rattle.journal_books.specs.declared.disks.Disks.{Disks}
 use Rattle.node_record.specs.declared.ledger.Ledger.{Ledger}
 use Rattle.node_record.specs.Ledger.{AreFoundOn, KeepsRecord, OpensOver}
 use Rattle.simplex_member.specs.declared.action.Action.{Action}
@@ -22,7 +23,7 @@ use Rattle.node_steps.specs.Opening.{IsOpen, MayGoThrough}
 
 module _ {S L D P G C K : Type 0} (g : Ghosts S D P G C) (e : elector.Ghosts L S D P G C) (k : disk.Ghosts K) (f : Formats S D P G C) where
   -- once the record was gone through, the history and the ledger agree: the node of both stands there
-  pub is-open : (s : Setup S D C) (Readable : Artifact S D P G C → Type 0) (on : K) (now : ℕ) (settings : Settings S) (layers : Layers S L D P G C) (ledger : Ledger S D K P G C) (node : Node S L D K P G C) (found : List (Artifact S D P G C)) (actions : List (Action S D P G C))
+  pub is-open : (s : Setup S D C) (Readable : Artifact S D P G C → Type 0) (on : Disks K) (now : ℕ) (settings : Settings S) (layers : Layers S L D P G C) (ledger : Ledger S D K P G C) (node : Node S L D K P G C) (found : List (Artifact S D P G C)) (actions : List (Action S D P G C))
       → node ≡ record { core = record { settings = settings; voter = layers.voter; acceptance = layers.acceptance; repair = layers.repair; ledger = ledger; tables = layers.tables }; failed = false }
       → IsSetUp s settings → HasBegun g e f s now found layers actions → AreFoundOn k f.artifact Readable on found → KeepsRecord k f.artifact (owner_of s) ledger found → IsOpen g e k f s Readable on now node actions
   is-open s Readable on now settings layers ledger node found actions is set_up begun are keeps = record {
@@ -46,7 +47,7 @@ module _ {S L D P G C K : Type 0} (g : Ghosts S D P G C) (e : elector.Ghosts L S
   }
 
   -- of a scheme that is found in several places: the member may go through what it opened
-  pub ready-by : (c : Config D) (l : L) (me : ℕ) (Readable : Artifact S D P G C → Type 0) (on : K) (now : ℕ) (settings : Settings S) (ledger : Ledger S D K P G C) (own kept lent : S)
+  pub ready-by : (c : Config D) (l : L) (me : ℕ) (Readable : Artifact S D P G C → Type 0) (on : Disks K) (now : ℕ) (settings : Settings S) (ledger : Ledger S D K P G C) (own kept lent : S)
       → kept ≡ own → lent ≡ kept → IsSetUp (setup_of g e c own l me) settings → IsInTime (setup_of g e c own l me) now → OpensOver k f.artifact Readable (g.attests lent) (g.certifies lent) settings.owner on ledger
       → MayGoThrough g k f.artifact Readable (setup_of g e c kept l me) settings ledger now
   ready-by c l me Readable on now settings ledger own kept lent is same set_up time over =
@@ -60,7 +61,7 @@ module _ {S L D P G C K : Type 0} (g : Ghosts S D P G C) (e : elector.Ghosts L S
       }
 
   -- and then it is open
-  pub open-by : (c : Config D) (l : L) (me : ℕ) (Readable : Artifact S D P G C → Type 0) (on : K) (now : ℕ) (settings : Settings S) (ledger : Ledger S D K P G C) (node : Node S L D K P G C) (actions : List (Action S D P G C)) (own kept lent : S)
+  pub open-by : (c : Config D) (l : L) (me : ℕ) (Readable : Artifact S D P G C → Type 0) (on : Disks K) (now : ℕ) (settings : Settings S) (ledger : Ledger S D K P G C) (node : Node S L D K P G C) (actions : List (Action S D P G C)) (own kept lent : S)
       → kept ≡ own → lent ≡ kept → IsSetUp (setup_of g e c own l me) settings → IsInTime (setup_of g e c own l me) now → OpensOver k f.artifact Readable (g.attests lent) (g.certifies lent) settings.owner on ledger
       → (IsSetUp (setup_of g e c kept l me) settings → IsInTime (setup_of g e c kept l me) now → OpensOver k f.artifact Readable (g.attests kept) (g.certifies kept) (owner_of (setup_of g e c kept l me)) on ledger → IsOpen g e k f (setup_of g e c kept l me) Readable on now node actions)
       → IsOpen g e k f (setup_of g e c own l me) Readable on now node actions

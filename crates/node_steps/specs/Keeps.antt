@@ -2,7 +2,10 @@
 use Rattle.std.specs.Prelude.{◌≡◌, ℕ, Bool, false}
 use Rattle.types_core.specs.declared.scheme.Scheme.{Ghosts}
 use Rattle.types_terms.specs.declared.elector.Elector as elector
+use Rattle.messages_certificates.specs.declared.artifact.Artifact.{Artifact}
 use Rattle.journal_single.specs.declared.disk.Disk as disk
+use Rattle.journal_books.specs.declared.books.Books.{Books}
+use Rattle.journal_books.specs.declared.disks.Disks.{Disks}
 use Rattle.simplex_member.specs.Packet.{Formats}
 use Rattle.simplex_member.specs.Point.{History}
 use Rattle.simplex_member.specs.Setup.{Setup}
@@ -10,9 +13,13 @@ use Rattle.node_core.specs.Keeps as cores
 use Rattle.node_core.specs.Keeps.{CoreKeeps}
 use Rattle.node_steps.specs.declared.node.Node.{Node}
 
--- the disk that a node stands on
-abbrev pub disk_of : {S L D K P G C : Type 0} → Node S L D K P G C → K
-disk_of node = cores.disk_of node.core
+-- the journal that a node keeps
+abbrev pub book_of : {S L D K P G C : Type 0} → Node S L D K P G C → Books (Artifact S D P G C) K
+book_of node = cores.book_of node.core
+
+-- the disks that it stands on
+abbrev pub disks_of : {S L D K P G C : Type 0} → Node S L D K P G C → Disks K
+disks_of node = cores.disks_of node.core
 
 -- a step of the node has failed
 abbrev pub has_failed : {S L D K P G C : Type 0} → Node S L D K P G C → Bool

@@ -1,5 +1,5 @@
 -- How a record is opened: what is wrong with the arguments, and what comes of it.
-use Rattle.std.specs.Prelude.{◌≡◌, ◌≢◌, ◌<◌, ◌⊎◌, ◌++◌, ℕ, List, [], ◌∷◌, map, Option, Some, None, Result, IfOk, IfErr, IfSome, OnOk, false, ⊤}
+use Rattle.std.specs.Prelude.{◌≡◌, ◌≢◌, ◌<◌, ◌⊎◌, ◌++◌, ℕ, List, [], ◌∷◌, map, Option, Some, None, IfSome, ⊤}
 use Rattle.types_core.specs.declared.scheme.Scheme.{Ghosts}
 use Rattle.messages_certificates.specs.declared.artifact.Artifact.{Artifact}
 use Rattle.types_terms.specs.declared.elector.Elector as elector
@@ -7,9 +7,8 @@ use Rattle.voter_rules.specs.declared.config.Config.{Config}
 use Rattle.voter_rules.specs.declared.config.ConfigFault.TheVariants as fault
 use Rattle.voter_rules.specs.Configuring.{Applies}
 use Rattle.journal_single.specs.declared.disk.Disk as disk
-use Rattle.journal_single.specs.Disk.{LeavesOnly, counted}
-use Rattle.journal_single.specs.Looking.{IsLeftAsItWas}
-use Rattle.journal_single.specs.Record.{IsForeign, IsReopened}
+use Rattle.journal_books.specs.declared.disks.Disks.{Disks}
+use Rattle.journal_books.specs.Books.{AreLeftAsTheyWere, HasFailed, HasNotFailed, IsForeignOn, Leave, MayBeRead}
 use Rattle.node_record.specs.declared.ledger.Ledger.{Ledger}
 use Rattle.node_record.specs.Ledger.{AreFoundOn, IsContradiction, OpensOver}
 use Rattle.simplex_member.specs.declared.action.Action.{Action}
@@ -35,15 +34,11 @@ early open_fault.MomentTooLate = Some open_fault.MomentTooLate
 early open_fault.TooManyOptimistic = Some open_fault.TooManyOptimistic
 early x = None
 
--- the fault is of what stands on the disk: an entry that is none, or that the rules refuse
+-- the fault is of what stands on the disks: an entry that is none, or that the rules refuse
 abbrev pub IsOfRecord : OpenFault → Type 0
 IsOfRecord (open_fault.Foreign place) = ⊤
 IsOfRecord (open_fault.Contradiction position) = ⊤
 IsOfRecord x = ⊥
-
--- what may be left of a disk by a crash while its record is opened: it reads as what one before it might have left
-abbrev pub MayBeLeft : {K : Type 0} → disk.Ghosts K → K → List ℕ → Type 0
-MayBeLeft k on image = IsReopened (k.calls on) image
 
 module _ {S D P G C : Type 0} (g : Ghosts S D P G C) (s : Setup S D C) where
   -- the tests of an opening by its arguments, in order
@@ -57,51 +52,53 @@ module _ {S D P G C : Type 0} (g : Ghosts S D P G C) (s : Setup S D C) where
 
 module _ {S D P G C K : Type 0} (g : Ghosts S D P G C) (k : disk.Ghosts K) (spelled : Artifact S D P G C → List ℕ)
     (Readable : Artifact S D P G C → Type 0) where
-  -- a member that is set up so opened this ledger over some disk, and may go through its record at this moment
+  -- a member that is set up so opened this ledger over some disks, and may go through its record at this moment
   pub record MayGoThrough (s : Setup S D C) (settings : Settings S) (ledger : Ledger S D K P G C) (now : ℕ) : Type 0 where
     pub set_up : IsSetUp s settings
     pub in_time : IsInTime s now
-    pub on : K
+    pub on : Disks K
     pub over : OpensOver k spelled Readable (g.attests s.voter.scheme) (g.certifies s.voter.scheme) (owner_of s) on ledger
 
 module _ {S L D P G C K : Type 0} (g : Ghosts S D P G C) (e : elector.Ghosts L S D P G C) (k : disk.Ghosts K) (f : Formats S D P G C) (s : Setup S D C) where
-  -- the node was opened on what was found on a disk, all that was due then was done, and these actions are out
-  pub record IsOpenAndSettled (Readable : Artifact S D P G C → Type 0) (on : K) (now : ℕ) (node : Node S L D K P G C) (actions : List (Action S D P G C)) : Type 0 where
+  -- the node was opened on what was found on disks, all that was due then was done, and these actions are out
+  pub record IsOpenAndSettled (Readable : Artifact S D P G C → Type 0) (on : Disks K) (now : ℕ) (node : Node S L D K P G C) (actions : List (Action S D P G C)) : Type 0 where
     pub found : List (Artifact S D P G C)
     pub are_found : AreFoundOn k f.artifact Readable on found
     pub end : History S D P G C
     pub opens : whole.Opens g f s now found actions end
     pub keeps : NodeKeeps g e k f s node end
 
-  -- what may be left by a crash while a record is opened: what one before it might have left, or what acts behind the reading leave
-  abbrev pub MayBeLeftOpen : (Artifact S D P G C → Type 0) → K → ℕ → List ℕ → Type 0
-  MayBeLeftOpen Readable on now image = MayBeLeft k on image
-      ⊎ ((found : List (Artifact S D P G C)) × AreFoundOn k f.artifact Readable on found × IsOpened g f s now found image)
+  -- what may be read after a crash while a record is opened: what might be read after one before it, or what acts behind the reading leave
+  abbrev pub MayBeLeftOpen : (Artifact S D P G C → Type 0) → Disks K → ℕ → List (List ℕ) → Type 0
+  MayBeLeftOpen Readable on now read = MayBeRead k on read
+      ⊎ ((found : List (Artifact S D P G C)) × AreFoundOn k f.artifact Readable on found × IsOpened g f s now found read)
 
-  -- the node was opened on what was found on a disk, and these actions are out
-  pub record IsOpen (Readable : Artifact S D P G C → Type 0) (on : K) (now : ℕ) (node : Node S L D K P G C) (actions : List (Action S D P G C)) : Type 0 where
+  -- the node was opened on what was found on disks, and these actions are out
+  pub record IsOpen (Readable : Artifact S D P G C → Type 0) (on : Disks K) (now : ℕ) (node : Node S L D K P G C) (actions : List (Action S D P G C)) : Type 0 where
     pub found : List (Artifact S D P G C)
     pub are_found : AreFoundOn k f.artifact Readable on found
     pub end : History S D P G C
     pub opens : Opens g f s now found actions end
     pub keeps : NodeKeeps g e k f s node end
 
-module _ {S L D P G C K : Type 0} (g : Ghosts S D P G C) (e : elector.Ghosts L S D P G C) (k : disk.Ghosts K) where
-  -- what an opening promises of its fault, and of a crash meanwhile, whatever it hands back beside the node: by the setup of each index,
-  -- and by what is left of the disk
-  pub record IsOpening {A : Type 0} (f : Formats S D P G C) (setup : ℕ → Setup S D C) (Readable : Artifact S D P G C → Type 0)
-      (config : Config D) (scheme : S) (on : K) (now : ℕ) (left : A → K) (answer : Result A (OpenFault × K)) : Type 0 where
-    pub told_early : IfErr answer (λ r. IfSome (early r.0) (λ x. IsFirst (open_tests g (setup 0) config now) (Some x) × (r.1 ≡ on)))
-    pub none_early : OnOk answer (IsFirst (open_tests g (setup 0) config now) None)
-    pub told_later : IfErr answer (λ r. early r.0 ≡ None → IsFirst (open_tests g (setup 0) config now) None)
-    pub foreign : IfErr answer (λ r. (place : ℕ) → r.0 ≡ open_fault.Foreign place → k.keeps → IsForeign [] Readable f.artifact (k.seen on) place)
-    pub contradiction : IfErr answer (λ r. (position index : ℕ) → g.own scheme ≡ Some index → r.0 ≡ open_fault.Contradiction position
-        → IsContradiction k f.artifact Readable (g.attests scheme) (g.certifies scheme) (owner_of (setup index)) on position)
-    pub untouched : IfErr answer (λ r. IsOfRecord r.0 → k.keeps → IsLeftAsItWas k.seen k.calls on r.1)
-    pub device : IfErr answer (λ r. r.0 ≡ open_fault.Device → k.failed r.1 ≡ counted false (k.failed on))
-    pub no_device : IfErr answer (λ r. r.0 ≢ open_fault.Device → k.failed r.1 ≡ k.failed on)
-    pub no_fault : IfOk answer (λ r. k.failed (left r) ≡ k.failed on)
-    pub any_moment : IfOk answer (λ r. (index : ℕ) → g.own scheme ≡ Some index → k.keeps
-        → LeavesOnly (k.calls on) (k.calls (left r)) (MayBeLeftOpen g e k f (setup index) Readable on now))
-    pub any_moment_of_a_fault : IfErr answer (λ r. (index : ℕ) → g.own scheme ≡ Some index → k.keeps
-        → LeavesOnly (k.calls on) (k.calls r.1) (MayBeLeftOpen g e k f (setup index) Readable on now))
+-- what an opening promises, by the setup of each index
+module _ {S L D P G C K : Type 0} (g : Ghosts S D P G C) (e : elector.Ghosts L S D P G C) (k : disk.Ghosts K) (f : Formats S D P G C) (setup : ℕ → Setup S D C)
+    (Readable : Artifact S D P G C → Type 0) (config : Config D) (scheme : S) (on : Disks K) (now : ℕ) where
+  -- of the disks under a node that it hands back
+  pub record HasOpened (left : Disks K) : Type 0 where
+    pub none_early : IsFirst (open_tests g (setup 0) config now) None
+    pub no_fault : HasNotFailed k on left
+    pub any_moment : (index : ℕ) → g.own scheme ≡ Some index → k.keeps → Leave k on left (MayBeLeftOpen g e k f (setup index) Readable on now)
+
+  -- of its fault, and of the disks that it gives back with that: what is wrong with the arguments is told first, the first that applies,
+  -- and no disk was touched; else what is read there that is no lawful record, and each disk is as it was; or that a disk failed
+  pub record IsUnopened (why : OpenFault) (back : Disks K) : Type 0 where
+    pub told_early : IfSome (early why) (λ x. IsFirst (open_tests g (setup 0) config now) (Some x) × (back ≡ on))
+    pub told_later : early why ≡ None → IsFirst (open_tests g (setup 0) config now) None
+    pub foreign : (place : ℕ) → why ≡ open_fault.Foreign place → k.keeps → IsForeignOn k Readable f.artifact on place
+    pub contradiction : (position index : ℕ) → g.own scheme ≡ Some index → why ≡ open_fault.Contradiction position
+        → IsContradiction k f.artifact Readable (g.attests scheme) (g.certifies scheme) (owner_of (setup index)) on position
+    pub untouched : IsOfRecord why → k.keeps → AreLeftAsTheyWere k on back
+    pub device : why ≡ open_fault.Device → HasFailed k on back
+    pub no_device : why ≢ open_fault.Device → HasNotFailed k on back
+    pub any_moment : (index : ℕ) → g.own scheme ≡ Some index → k.keeps → Leave k on back (MayBeLeftOpen g e k f (setup index) Readable on now)

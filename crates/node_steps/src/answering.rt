@@ -3,7 +3,7 @@
 ghost use Rattle.std.specs.Prelude.{IsOk, IsSome};
 ghost use Rattle.simplex_member.specs.declared.event.Event.{Event};
 ghost use Rattle.simplex_member.specs.Point.{History};
-ghost use Rattle.node_core.specs.Keeps.{AtOwn, disk_of};
+ghost use Rattle.node_core.specs.Keeps.{AtOwn, disks_of};
 ghost use Rattle.node_core.specs.Telling.{TellsOfDisk};
 ghost use Rattle.node_input.specs.Stepping.{StepsAtOnce};
 ghost use Rattle.node_steps.specs.Stepping.{GoesOn, IsAnsweredWhole};
@@ -18,13 +18,14 @@ use types_core::{Digest, Scheme};
 use types_terms::Elector;
 
 /// The reply to an event, of a node of which no step has failed, with all that is due behind it.
+#[tactic(auto, using(journal_books::specs::BooksLaws::same_not_failed))]
 pub(crate) fn answer_whole<S: Scheme<D> + Drop, L: Elector<S, D>, D: Digest, K: Disk>(
     core: &mut Core<S, L, D, K>,
     event: Event<D>,
 ) -> Result<Reply<S, D>, NodeFault>
     ensures answered { AtOwn S.Scheme L.Elector K.Disk ⟦<S as Speaks<D>>⟧.formats core.old
         (λ f s h. IsAnsweredWhole S.Scheme L.Elector K.Disk f s core.old core.new h event result) }
-    ensures faults { TellsOfDisk K.Disk (disk_of core.old) (disk_of core.new) result }
+    ensures faults { TellsOfDisk K.Disk (disks_of core.old) (disks_of core.new) result }
 {
     match answer(core, event) {
         Ok(reply) => go_on(core, reply),
@@ -33,6 +34,7 @@ pub(crate) fn answer_whole<S: Scheme<D> + Drop, L: Elector<S, D>, D: Digest, K: 
 }
 
 /// Does all that is due behind an event that was taken; behind one that was refused nothing is.
+#[tactic(auto, using(journal_books::specs::BooksLaws::same_not_failed))]
 fn go_on<S: Scheme<D> + Drop, L: Elector<S, D>, D: Digest, K: Disk>(
     core: &mut Core<S, L, D, K>,
     reply: Reply<S, D>,
@@ -42,7 +44,7 @@ fn go_on<S: Scheme<D> + Drop, L: Elector<S, D>, D: Digest, K: Disk>(
         → StepsAtOnce S.Scheme f s h event reply mid
         → GoesOn S.Scheme L.Elector K.Disk f s core.old core.new h mid event result) }
     ensures refused { IsSome reply.refused → IsOk result }
-    ensures faults { TellsOfDisk K.Disk (disk_of core.old) (disk_of core.new) result }
+    ensures faults { TellsOfDisk K.Disk (disks_of core.old) (disks_of core.new) result }
 {
     a_ledger_at_rest_leaves_its_record::<S, D, K>();
     let Reply {

@@ -1,11 +1,13 @@
 //! One member's node.
 
-ghost use Rattle.std.specs.Prelude.{◌≡◌, ℕ, List, false};
-ghost use Rattle.journal_single.specs.Disk.{MayLeave};
+ghost use Rattle.std.specs.Prelude.{◌≡◌, ℕ, List, true, false};
+ghost use Rattle.journal_books.specs.declared.disks.Disks.TheVariants.{One, Two};
+ghost use Rattle.journal_books.specs.Books.{MayBeRead, are_two};
 ghost use Rattle.simplex_member.specs.Layers.{current_of, finalized_of};
 ghost use Rattle.simplex_member.specs.Member.{ReadsAs};
-ghost use Rattle.node_steps.specs.Keeps.{AtAll, AtOwn, disk_of, has_failed};
+ghost use Rattle.node_steps.specs.Keeps.{AtAll, AtOwn, disks_of, has_failed};
 
+use journal_books::Disks;
 use journal_single::Disk;
 use node_core::Core;
 use node_record::a_ledger_at_rest_leaves_its_record;
@@ -13,7 +15,7 @@ use simplex_member::Speaks;
 use types_core::{Digest, Scheme, View};
 use types_terms::Elector;
 
-/// One member of a committee: what it knows, which votes it accepted, what it recorded on its disk, and what it asked for.
+/// One member of a committee: what it knows, which votes it accepted, what it recorded on its disks, and what it asked for.
 #[derive(Drop)]
 pub struct Node<S: Scheme<D>, L: Elector<S, D>, D: Digest, K: Disk> {
     pub(crate) core: Core<S, L, D, K>,
@@ -43,11 +45,38 @@ impl<S: Scheme<D> + Drop, L: Elector<S, D>, D: Digest, K: Disk> Node<S, L, D, K>
         self.failed
     }
 
-    /// Gives the disk back, which holds what the node has recorded: a crash leaves nothing else.
+    /// Whether it stands on two disks.
+    pub fn is_pair(&self) -> bool
+        ensures { result ≡ are_two (disks_of self.now) }
+    {
+        self.core.ledger.is_pair()
+    }
+
+    /// Gives the disk back, where it stands on one, which holds what the node has recorded: a crash leaves nothing else.
     pub fn close(self) -> K
-        ensures disk { result ≡ disk_of self }
+        requires { are_two (disks_of self) ≡ false }
+        ensures disk { disks_of self ≡ One result }
         ensures left { AtOwn S.Scheme L.Elector K.Disk ⟦<S as Speaks<D>>⟧.formats self
-            (λ f s h. K.keeps → (image : List ℕ) → MayLeave (K.calls result) image → ReadsAs S.Scheme f s image h) }
+            (λ f s h. K.keeps → (read : List (List ℕ)) → MayBeRead K.Disk (One result) read → ReadsAs S.Scheme f s read h) }
+    {
+        self.into_disks().one()
+    }
+
+    /// Gives both disks back, where it stands on two.
+    pub fn close_pair(self) -> (K, K)
+        requires { are_two (disks_of self) ≡ true }
+        ensures disks { disks_of self ≡ Two result.0 result.1 }
+        ensures left { AtOwn S.Scheme L.Elector K.Disk ⟦<S as Speaks<D>>⟧.formats self
+            (λ f s h. K.keeps → (read : List (List ℕ)) → MayBeRead K.Disk (Two result.0 result.1) read → ReadsAs S.Scheme f s read h) }
+    {
+        self.into_disks().two()
+    }
+
+    /// Gives back the disks that it stands on, one or two.
+    pub fn into_disks(self) -> Disks<K>
+        ensures disks { result ≡ disks_of self }
+        ensures left { AtOwn S.Scheme L.Elector K.Disk ⟦<S as Speaks<D>>⟧.formats self
+            (λ f s h. K.keeps → (read : List (List ℕ)) → MayBeRead K.Disk result read → ReadsAs S.Scheme f s read h) }
     {
         a_ledger_at_rest_leaves_its_record::<S, D, K>();
         let core = self.core;

@@ -1,10 +1,10 @@
 //! Opening a record.
 
-ghost use Rattle.std.specs.Prelude.{◌≡◌, ◌≢◌, ◌<◌, ◌↔◌, ◌⊎◌, ℕ, IsTrue, [], None, Some, IfOk, IfErr, IfSome, OnOk, false, max, unwrap_or};
+ghost use Rattle.std.specs.Prelude.{◌≡◌, ◌≢◌, ◌<◌, ◌↔◌, ◌⊎◌, ℕ, IsTrue, [], None, Some, IfOk, IfErr, IfSome, OnOk, false, true, max, unwrap_or};
 ghost use Rattle.messages_certificates.specs.Artifact.{artifact_spelling};
-ghost use Rattle.journal_single.specs.Disk.{LeavesOnly, counted};
-ghost use Rattle.journal_single.specs.Looking.{IsLeftAsItWas};
-ghost use Rattle.journal_single.specs.Record.{IsForeign};
+ghost use Rattle.journal_books.specs.declared.disks.Disks.{Disks};
+ghost use Rattle.journal_books.specs.declared.disks.Disks.TheVariants.{One, Two};
+ghost use Rattle.journal_books.specs.Books.{AreLeftAsTheyWere, HasFailed, HasNotFailed, IsForeignOn, Leave, LeaveSince, MayBeRead, are_two};
 ghost use Rattle.node_record.specs.Ledger as ledgers;
 ghost use Rattle.node_record.specs.Ledger.{IsContradiction, OpensOver};
 ghost use Rattle.simplex_member.specs.declared.fault.NodeFault.TheVariants as step_fault;
@@ -12,12 +12,12 @@ ghost use Rattle.simplex_member.specs.declared.fault.OpenFault.TheVariants as op
 ghost use Rattle.simplex_member.specs.First.{IsFirst};
 ghost use Rattle.simplex_member.specs.Setup.{Setup, IsInTime, owner_of, setup_of, silence_of};
 ghost use Rattle.node_core.specs.SettingUp.{EndsActs, IsSetUp};
-ghost use Rattle.node_due.specs.Acting.{IsLeftByActs};
-ghost use Rattle.node_steps.specs.Keeps.{AtOwn, disk_of};
-ghost use Rattle.node_steps.specs.Opening.{IsOfRecord, IsOpen, IsOpenAndSettled, MayBeLeftOpen, MayGoThrough, early, open_tests};
+ghost use Rattle.node_steps.specs.Keeps.{book_of, disks_of};
+ghost use Rattle.node_steps.specs.Opening.{HasOpened, IsOfRecord, IsOpen, IsOpenAndSettled, IsUnopened, MayBeLeftOpen, MayGoThrough, early, open_tests};
 
 use crate::node::Node;
-use journal_single::{Disk, a_disk_reads_as_one_record};
+use journal_books::{Disks, disks_read_as_one_record};
+use journal_single::Disk;
 use messages_certificates::Artifact;
 use node_core::{Core, Layers, Settings};
 use node_due::settle;
@@ -51,63 +51,143 @@ impl<S: Scheme<D> + Drop, L: Elector<S, D>, D: Digest, K: Disk> Node<S, L, D, K>
     ) -> Result<(Self, Vec<Action<S, D>>), (OpenFault, K)>
         requires { L.built_for elector (S.size scheme.value) }
 
-        // What was found on the disk was gone through, and the node stands behind it; the actions are what that hands out.
+        // What was found was gone through, and the node stands behind it; the actions are what that hands out.
         ensures opened { IfOk result (λ r.
             (index : ℕ) × (S.own scheme.value ≡ Some index) × IsOpenAndSettled S.Scheme L.Elector K.Disk
             (⟦<S as Speaks<D>>⟧.formats (S.size scheme.value)) (setup_of S.Scheme L.Elector config scheme.value elector index)
-            ⟦<S as Speaks<D>>⟧.readable disk now r.0 r.1.items) }
+            ⟦<S as Speaks<D>>⟧.readable (One disk) now r.0 r.1.items) }
 
-        // What is wrong with the arguments is told first, the first that applies, and the disk was not touched.
+        // Each fault is told for its cause, a record that is refused is left as it was, and a crash meanwhile leaves no other.
+        ensures has_opened { IfOk result (λ r.
+            HasOpened S.Scheme L.Elector K.Disk (⟦<S as Speaks<D>>⟧.formats (S.size scheme.value))
+            (setup_of S.Scheme L.Elector config scheme.value elector) ⟦<S as Speaks<D>>⟧.readable config scheme.value (One disk) now
+            (disks_of r.0)) }
+        ensures unopened { IfErr result (λ r.
+            IsUnopened S.Scheme L.Elector K.Disk (⟦<S as Speaks<D>>⟧.formats (S.size scheme.value))
+            (setup_of S.Scheme L.Elector config scheme.value elector) ⟦<S as Speaks<D>>⟧.readable config scheme.value (One disk) now
+            r.0 (One r.1)) }
+        ensures over_one { IfOk result (λ r. are_two (disks_of r.0) ≡ false) }
+    {
+        match Self::open_on(alloc, config, scheme, elector, Disks::One(disk), now) {
+            Ok(opened) => Ok(opened),
+            Err((fault, disks)) => Err((fault, disks.one())),
+        }
+    }
+
+    /// The same over two disks, of which the one of the greater generation is read. Each opening is over the same disks, in the same
+    /// order; a record of one disk is opened with an empty disk as the second.
+    ///
+    /// # Errors
+    ///
+    /// Those of [`Node::open`], with both disks.
+    pub fn open_pair(
+        alloc: Global,
+        config: Config<D>,
+        scheme: Rc<S>,
+        elector: L,
+        first: K,
+        second: K,
+        now: u64,
+    ) -> Result<(Self, Vec<Action<S, D>>), (OpenFault, K, K)>
+        requires { L.built_for elector (S.size scheme.value) }
+        ensures opened { IfOk result (λ r.
+            (index : ℕ) × (S.own scheme.value ≡ Some index) × IsOpenAndSettled S.Scheme L.Elector K.Disk
+            (⟦<S as Speaks<D>>⟧.formats (S.size scheme.value)) (setup_of S.Scheme L.Elector config scheme.value elector index)
+            ⟦<S as Speaks<D>>⟧.readable (Two first second) now r.0 r.1.items) }
+        ensures has_opened { IfOk result (λ r.
+            HasOpened S.Scheme L.Elector K.Disk (⟦<S as Speaks<D>>⟧.formats (S.size scheme.value))
+            (setup_of S.Scheme L.Elector config scheme.value elector) ⟦<S as Speaks<D>>⟧.readable config scheme.value (Two first second) now
+            (disks_of r.0)) }
+        ensures unopened { IfErr result (λ r.
+            IsUnopened S.Scheme L.Elector K.Disk (⟦<S as Speaks<D>>⟧.formats (S.size scheme.value))
+            (setup_of S.Scheme L.Elector config scheme.value elector) ⟦<S as Speaks<D>>⟧.readable config scheme.value (Two first second) now
+            r.0 (Two r.1 r.2)) }
+        ensures over_two { IfOk result (λ r. are_two (disks_of r.0) ≡ true) }
+    {
+        match Self::open_on(
+            alloc,
+            config,
+            scheme,
+            elector,
+            Disks::Two(first, second),
+            now,
+        ) {
+            Ok(opened) => Ok(opened),
+            Err((fault, disks)) => {
+                let (first, second) = disks.two();
+                Err((fault, first, second))
+            }
+        }
+    }
+
+    /// Opens a member's record over one disk or two.
+    fn open_on(
+        alloc: Global,
+        config: Config<D>,
+        scheme: Rc<S>,
+        elector: L,
+        disks: Disks<K>,
+        now: u64,
+    ) -> Result<(Self, Vec<Action<S, D>>), (OpenFault, Disks<K>)>
+        requires { L.built_for elector (S.size scheme.value) }
+
+        // What was found was gone through, and the node stands behind it; the actions are what that hands out.
+        ensures opened { IfOk result (λ r.
+            (index : ℕ) × (S.own scheme.value ≡ Some index) × IsOpenAndSettled S.Scheme L.Elector K.Disk
+            (⟦<S as Speaks<D>>⟧.formats (S.size scheme.value)) (setup_of S.Scheme L.Elector config scheme.value elector index)
+            ⟦<S as Speaks<D>>⟧.readable disks now r.0 r.1.items) }
+
+        // What is wrong with the arguments is told first, the first that applies, and no disk was touched.
         ensures early { IfErr result (λ r.
             IfSome (early r.0)
-            (λ x. IsFirst (open_tests S.Scheme (setup_of S.Scheme L.Elector config scheme.value elector 0) config now) (Some x) × (r.1 ≡ disk))) }
+            (λ x. IsFirst (open_tests S.Scheme (setup_of S.Scheme L.Elector config scheme.value elector 0) config now) (Some x) × (r.1 ≡ disks))) }
         ensures no_early { OnOk result (IsFirst (open_tests S.Scheme (setup_of S.Scheme L.Elector config scheme.value elector 0) config now) None) }
         ensures later { IfErr result
             (λ r. early r.0 ≡ None → IsFirst (open_tests S.Scheme (setup_of S.Scheme L.Elector config scheme.value elector 0) config now) None) }
 
-        // The other faults but want of memory say what is on the disk, or that it failed once more, exactly where that is told.
+        // The other faults but want of memory say what is read, or that a disk failed once more, exactly where that is told.
         ensures foreign { IfErr result (λ r.
             (place : ℕ)
             → r.0 ≡ open_fault.Foreign place
             → K.keeps
-            → IsForeign [] ⟦<S as Speaks<D>>⟧.readable ⟦<Artifact<S, D> as Write>⟧.spelling (K.seen disk) place) }
+            → IsForeignOn K.Disk ⟦<S as Speaks<D>>⟧.readable ⟦<Artifact<S, D> as Write>⟧.spelling disks place) }
         ensures contradiction { IfErr result (λ r.
             (position index : ℕ)
             → S.own scheme.value ≡ Some index
             → r.0 ≡ open_fault.Contradiction position
             → IsContradiction K.Disk (artifact_spelling D.spelling S.Signature.spelling S.Certificate.spelling) ⟦<S as Speaks<D>>⟧.readable
-            (S.attests scheme.value) (S.certifies scheme.value) (owner_of (setup_of S.Scheme L.Elector config scheme.value elector index)) disk
+            (S.attests scheme.value) (S.certifies scheme.value) (owner_of (setup_of S.Scheme L.Elector config scheme.value elector index)) disks
             position) }
-        ensures device { IfErr result (λ r. r.0 ≡ open_fault.Device → K.failed r.1 ≡ counted false (K.failed disk)) }
-        ensures no_device { IfErr result (λ r. r.0 ≢ open_fault.Device → K.failed r.1 ≡ K.failed disk) }
-        ensures no_fault { IfOk result (λ r. K.failed (disk_of r.0) ≡ K.failed disk) }
+        ensures device { IfErr result (λ r. r.0 ≡ open_fault.Device → HasFailed K.Disk disks r.1) }
+        ensures no_device { IfErr result (λ r. r.0 ≢ open_fault.Device → HasNotFailed K.Disk disks r.1) }
+        ensures no_fault { IfOk result (λ r. HasNotFailed K.Disk disks (disks_of r.0)) }
 
-        // A record that is refused for what stands in it is left as it was: nothing was written or cut.
-        ensures untouched { IfErr result (λ r. IsOfRecord r.0 → K.keeps → IsLeftAsItWas K.seen K.calls disk r.1) }
+        // Disks of a record that is refused for what stands in it are left as they were: nothing was written or cut.
+        ensures untouched { IfErr result (λ r. IsOfRecord r.0 → K.keeps → AreLeftAsTheyWere K.Disk disks r.1) }
 
-        // What a crash at any moment of the call may leave.
+        // What may be read after a crash at any moment of the call.
         ensures any_moment { IfOk result (λ r.
             (index : ℕ)
             → S.own scheme.value ≡ Some index
             → K.keeps
-            → LeavesOnly (K.calls disk) (K.calls (disk_of r.0)) (MayBeLeftOpen S.Scheme L.Elector K.Disk
+            → Leave K.Disk disks (disks_of r.0) (MayBeLeftOpen S.Scheme L.Elector K.Disk
             (⟦<S as Speaks<D>>⟧.formats (S.size scheme.value)) (setup_of S.Scheme L.Elector config scheme.value elector index)
-            ⟦<S as Speaks<D>>⟧.readable disk now)) }
+            ⟦<S as Speaks<D>>⟧.readable disks now)) }
         ensures any_moment_of_a_fault { IfErr result (λ r.
             (index : ℕ)
             → S.own scheme.value ≡ Some index
             → K.keeps
-            → LeavesOnly (K.calls disk) (K.calls r.1) (MayBeLeftOpen S.Scheme L.Elector K.Disk
+            → Leave K.Disk disks r.1 (MayBeLeftOpen S.Scheme L.Elector K.Disk
             (⟦<S as Speaks<D>>⟧.formats (S.size scheme.value)) (setup_of S.Scheme L.Elector config scheme.value elector index)
-            ⟦<S as Speaks<D>>⟧.readable disk now)) }
+            ⟦<S as Speaks<D>>⟧.readable disks now)) }
     {
-        a_disk_reads_as_one_record::<Artifact<S, D>>();
+        disks_read_as_one_record::<K>();
         let me = match member_of(&config, &*scheme, &elector, now) {
             Ok(me) => me,
-            Err(fault) => return Err((fault, disk)),
+            Err(fault) => return Err((fault, disks)),
         };
         let settings = settings_of(alloc, &config, scheme, &elector, me);
-        match Ledger::open(alloc, &*settings.scheme, settings.owner, disk) {
+        match Ledger::open(alloc, &*settings.scheme, settings.owner, disks) {
             Ok(ledger) => match open_over(settings, &config, elector, ledger, now) {
                 Ok((node, actions)) => begin(node, actions),
                 Err(refused) => Err(refused),
@@ -117,26 +197,26 @@ impl<S: Scheme<D> + Drop, L: Elector<S, D>, D: Digest, K: Disk> Node<S, L, D, K>
     }
 }
 
-/// The node over a record that was opened, behind all that it says; or the disk, where memory ran out.
+/// The node over a record that was opened, behind all that it says; or the disks, where memory ran out.
 fn open_over<S: Scheme<D> + Drop, L: Elector<S, D>, D: Digest, K: Disk>(
     settings: Settings<S>,
     config: &Config<D>,
     elector: L,
     ledger: Ledger<S, D, K>,
     now: u64,
-) -> Result<(Node<S, L, D, K>, Vec<Action<S, D>>), (OpenFault, K)>
+) -> Result<(Node<S, L, D, K>, Vec<Action<S, D>>), (OpenFault, Disks<K>)>
     requires built_for { L.built_for elector (S.size settings.scheme.value) }
     requires ready { (index : ℕ) × MayGoThrough S.Scheme K.Disk (artifact_spelling D.spelling S.Signature.spelling S.Certificate.spelling)
         ⟦<S as Speaks<D>>⟧.readable (setup_of S.Scheme L.Elector config.now settings.scheme.value elector index) settings ledger now }
     ensures opened { IfOk result (λ r.
-        (on : K) (n index : ℕ)
+        (on : Disks K) (n index : ℕ)
         → let s = setup_of S.Scheme L.Elector config.now settings.scheme.value elector index in IsSetUp s settings
         → IsInTime s now
         → OpensOver K.Disk (artifact_spelling D.spelling S.Signature.spelling S.Certificate.spelling) ⟦<S as Speaks<D>>⟧.readable
         (S.attests s.voter.scheme) (S.certifies s.voter.scheme) (owner_of s) on ledger
         → IsOpen S.Scheme L.Elector K.Disk (⟦<S as Speaks<D>>⟧.formats n) s ⟦<S as Speaks<D>>⟧.readable on now r.0 r.1.items) }
-    ensures disk { IfOk result (λ r. disk_of r.0 ≡ ledgers.disk_of ledger) }
-    ensures memory { IfErr result (λ r. (r.0 ≡ open_fault.Memory) × (r.1 ≡ ledgers.disk_of ledger)) }
+    ensures book { IfOk result (λ r. book_of r.0 ≡ ledgers.book_of ledger) }
+    ensures memory { IfErr result (λ r. (r.0 ≡ open_fault.Memory) × (r.1 ≡ ledgers.disks_of ledger)) }
 {
     match Layers::begin(&settings, config, elector, now, ledger.recorded()) {
         Ok((layers, actions)) => Ok((node_of(settings, layers, ledger), actions)),
@@ -144,32 +224,41 @@ fn open_over<S: Scheme<D> + Drop, L: Elector<S, D>, D: Digest, K: Disk>(
     }
 }
 
-/// Does all that is due once a record was gone through; or gives the disk back.
+/// Does all that is due once a record was gone through; or gives the disks back.
 fn begin<S: Scheme<D> + Drop, L: Elector<S, D>, D: Digest, K: Disk>(
     node: Node<S, L, D, K>,
     actions: Vec<Action<S, D>>,
-) -> Result<(Node<S, L, D, K>, Vec<Action<S, D>>), (OpenFault, K)>
+) -> Result<(Node<S, L, D, K>, Vec<Action<S, D>>), (OpenFault, Disks<K>)>
     ensures opened { IfOk result (λ r.
-        (n : ℕ) (s : Setup S D S.Certificate) (on : K) (now : ℕ)
+        (n : ℕ) (s : Setup S D S.Certificate) (on : Disks K) (now : ℕ)
         → n ≡ S.size s.voter.scheme
         → let f = ⟦<S as Speaks<D>>⟧.formats n in IsOpen S.Scheme L.Elector K.Disk f s ⟦<S as Speaks<D>>⟧.readable on now node actions.items
         → IsOpenAndSettled S.Scheme L.Elector K.Disk f s ⟦<S as Speaks<D>>⟧.readable on now r.0 r.1.items) }
     ensures memory { IfErr result (λ r. (r.0 ≡ open_fault.Memory) ⊎ (r.0 ≡ open_fault.Device)) }
-    ensures device { IfErr result (λ r. r.0 ≡ open_fault.Device → K.failed r.1 ≡ counted false (K.failed (disk_of node))) }
-    ensures no_device { IfErr result (λ r. r.0 ≢ open_fault.Device → K.failed r.1 ≡ K.failed (disk_of node)) }
-    ensures no_fault { IfOk result (λ r. K.failed (disk_of r.0) ≡ K.failed (disk_of node)) }
+    ensures device { IfErr result (λ r. r.0 ≡ open_fault.Device → HasFailed K.Disk (disks_of node) r.1) }
+    ensures no_device { IfErr result (λ r. r.0 ≢ open_fault.Device → HasNotFailed K.Disk (disks_of node) r.1) }
+    ensures no_fault { IfOk result (λ r. HasNotFailed K.Disk (disks_of node) (disks_of r.0)) }
+    // What may be read after a crash since before the record was opened.
     ensures any_moment { IfOk result (λ r.
-        AtOwn S.Scheme L.Elector K.Disk ⟦<S as Speaks<D>>⟧.formats node
-        (λ f s h. K.keeps → LeavesOnly (K.calls (disk_of node)) (K.calls (disk_of r.0)) (IsLeftByActs S.Scheme f s h))) }
+        (n : ℕ) (s : Setup S D S.Certificate) (on : Disks K) (now : ℕ)
+        → n ≡ S.size s.voter.scheme
+        → let f = ⟦<S as Speaks<D>>⟧.formats n in IsOpen S.Scheme L.Elector K.Disk f s ⟦<S as Speaks<D>>⟧.readable on now node actions.items
+        → K.keeps
+        → LeaveSince K.Disk on (book_of node) (MayBeRead K.Disk on)
+        → Leave K.Disk on (disks_of r.0) (MayBeLeftOpen S.Scheme L.Elector K.Disk f s ⟦<S as Speaks<D>>⟧.readable on now)) }
     ensures any_moment_of_a_fault { IfErr result (λ r.
-        AtOwn S.Scheme L.Elector K.Disk ⟦<S as Speaks<D>>⟧.formats node
-        (λ f s h. K.keeps → LeavesOnly (K.calls (disk_of node)) (K.calls r.1) (IsLeftByActs S.Scheme f s h))) }
+        (n : ℕ) (s : Setup S D S.Certificate) (on : Disks K) (now : ℕ)
+        → n ≡ S.size s.voter.scheme
+        → let f = ⟦<S as Speaks<D>>⟧.formats n in IsOpen S.Scheme L.Elector K.Disk f s ⟦<S as Speaks<D>>⟧.readable on now node actions.items
+        → K.keeps
+        → LeaveSince K.Disk on (book_of node) (MayBeRead K.Disk on)
+        → Leave K.Disk on r.1 (MayBeLeftOpen S.Scheme L.Elector K.Disk f s ⟦<S as Speaks<D>>⟧.readable on now)) }
 {
     let mut node = node;
     let mut actions = actions;
     match settle(&mut node.core, &mut actions) {
         Ok(()) => Ok((node, actions)),
-        Err(fault) => Err((not_begun(fault), node.close())),
+        Err(fault) => Err((not_begun(fault), node.into_disks())),
     }
 }
 

@@ -1,12 +1,12 @@
 //! Steps: an event is refused or taken, and what it brings is done.
 
 ghost use Rattle.std.specs.Prelude.{◌≡◌, Some, true, false, IfOk, OnErr, OnOk, IsErrOf, IsOk};
-ghost use Rattle.journal_single.specs.Disk.{LeavesOnly, counted};
+ghost use Rattle.journal_books.specs.Books.{HasFailed, HasNotFailed, LeaveBook, are_two};
 ghost use Rattle.simplex_member.specs.First.{IsFirst};
 ghost use Rattle.simplex_member.specs.Member.{IsReached, Steps};
 ghost use Rattle.simplex_member.specs.Point.{History};
 ghost use Rattle.simplex_member.specs.Refusals.{needs_nothing, tests};
-ghost use Rattle.node_steps.specs.Keeps.{AtOwn, NodeKeeps, disk_of, has_failed};
+ghost use Rattle.node_steps.specs.Keeps.{AtOwn, NodeKeeps, book_of, disks_of, has_failed};
 
 use crate::answering::answer_whole;
 use crate::node::Node;
@@ -30,14 +30,15 @@ impl<S: Scheme<D> + Drop, L: Elector<S, D>, D: Digest, K: Disk> Node<S, L, D, K>
         ensures refused_if_failed { has_failed self.old ≡ true → IsErrOf result NodeFault.Failed × (self.new ≡ self.old) }
         ensures failed_before { IsErrOf result NodeFault.Failed → has_failed self.old ≡ true }
 
-        // The disk has failed once more exactly where that is told.
-        ensures device { IsErrOf result NodeFault.Device → K.failed (disk_of self.new) ≡ counted false (K.failed (disk_of self.old)) }
-        ensures no_device { IsErrOf result NodeFault.Memory → K.failed (disk_of self.new) ≡ K.failed (disk_of self.old) }
-        ensures no_fault { OnOk result (K.failed (disk_of self.new) ≡ K.failed (disk_of self.old)) }
+        // A disk has failed once more exactly where that is told.
+        ensures device { IsErrOf result NodeFault.Device → HasFailed K.Disk (disks_of self.old) (disks_of self.new) }
+        ensures no_device { IsErrOf result NodeFault.Memory → HasNotFailed K.Disk (disks_of self.old) (disks_of self.new) }
+        ensures no_fault { OnOk result (HasNotFailed K.Disk (disks_of self.old) (disks_of self.new)) }
+        ensures as_many { are_two (disks_of self.new) ≡ are_two (disks_of self.old) }
 
         // A crash at any moment of the call leaves the record at a point of the step.
         ensures any_moment { AtOwn S.Scheme L.Elector K.Disk ⟦<S as Speaks<D>>⟧.formats self.old
-            (λ f s h. K.keeps → LeavesOnly (K.calls (disk_of self.old)) (K.calls (disk_of self.new)) (IsReached S.Scheme f s h event)) }
+            (λ f s h. K.keeps → LeaveBook K.Disk (book_of self.old) (book_of self.new) (IsReached S.Scheme f s h event)) }
 
         // Refusals that ask for neither memory nor the disk are always answered.
         ensures without_memory { AtOwn S.Scheme L.Elector K.Disk ⟦<S as Speaks<D>>⟧.formats self.old

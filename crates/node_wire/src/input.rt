@@ -17,8 +17,8 @@ use std::marker::Model;
 use types_codec::CodecError;
 use types_core::Digest;
 
-/// The most bytes that one read gives.
-const PIECE: usize = 65_536;
+/// The most bytes that one read gives: few, since each read first fills as many with zeros.
+const PIECE: usize = 4096;
 
 /// The events after which an input is given up.
 const MOST_EVENTS: u64 = 4_294_967_296;

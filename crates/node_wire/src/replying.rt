@@ -15,6 +15,9 @@ use simplex_member::{Event, IoFault, Reply};
 use std::alloc::Global;
 use types_core::{Digest, Scheme};
 
+/// The room for a reply's bytes before they grow: most take less.
+const ROOM: usize = 512;
+
 /// Writes all the bytes, and flushes.
 ///
 /// # Errors
@@ -56,7 +59,9 @@ pub fn write_out<S: Scheme<D>, D: Digest, W: Sink>(
     ensures failed { result ≡ Err fault.Write → W.failed writer.new ≡ counted false (W.failed writer.old) }
     ensures not_failed { result ≢ Err fault.Write → W.failed writer.new ≡ W.failed writer.old }
 {
-    let mut bytes = Vec::new(alloc);
+    let Ok(mut bytes) = Vec::with_capacity(alloc, ROOM) else {
+        return Err(IoFault::Memory);
+    };
     if write_reply(&mut bytes, reply).is_err() {
         return Err(IoFault::Memory);
     }

@@ -45,6 +45,21 @@ impl<S: Scheme<D> + Drop, L: Turns<S, D>, D: Digest, K: Disk> Seat<
         }
     }
 
+    fn open_pair(
+        alloc: Global,
+        setup: &Setup,
+        config: Config<D>,
+        scheme: Rc<S>,
+        first: K,
+        second: K,
+        now: u64,
+    ) -> Result<(Node<S, L, D, K>, Vec<Action<S, D>>), (OpenFault, K, K)> {
+        match L::among(alloc, setup, scheme.participants()) {
+            Ok(elector) => Node::open_pair(alloc, config, scheme, elector, first, second, now),
+            Err(_) => Err((OpenFault::Memory, first, second)),
+        }
+    }
+
     fn step(node: &mut Node<S, L, D, K>, event: Event<D>) -> Result<Reply<S, D>, NodeFault> {
         node.step(event)
     }
@@ -100,8 +115,12 @@ impl<S: Scheme<D> + Drop, L: Turns<S, D>, D: Digest, K: Disk> Seat<
         node.is_failed()
     }
 
-    fn close(node: Node<S, L, D, K>) -> K {
-        node.close()
+    fn close(node: Node<S, L, D, K>) -> (Option<K>, Option<K>) {
+        if !node.is_pair() {
+            return (Some(node.close()), None);
+        }
+        let (first, second) = node.close_pair();
+        (Some(first), Some(second))
     }
 }
 

@@ -7,6 +7,7 @@ use Rattle.types_core.specs.declared.scheme.Scheme.{Ghosts}
 use Rattle.messages_certificates.specs.declared.artifact.Artifact.{Artifact}
 use Rattle.types_terms.specs.declared.elector.Elector as elector
 use Rattle.journal_single.specs.declared.disk.Disk as disk
+use Rattle.journal_books.specs.declared.disks.Disks.{Disks}
 use Rattle.simplex_member.specs.declared.action.Reply.{Reply}
 use Rattle.simplex_member.specs.declared.fault.IoFault.{IoFault}
 use Rattle.simplex_member.specs.declared.fault.IoFault.TheVariants as fault
@@ -47,7 +48,7 @@ module _ {S L D P G C K : Type 0} (g : Ghosts S D P G C) (e : elector.Ghosts L S
       (λ events replies runs. (runs.end, runs.run)) (λ events replies event why fails. (fails.runs.end, fails.runs.run)) r given text more
 
   -- behind the opening of a record, whose first reply was written
-  pub served_over : (Readable : Artifact S D P G C → Type 0) (on : K) (now : ℕ) (node : Node S L D K P G C) (first : Reply S D P G C) (ReadFailed : Type 0) (r : Result ⊤ Ending) (given text mid more : Option (List ℕ))
+  pub served_over : (Readable : Artifact S D P G C → Type 0) (on : Disks K) (now : ℕ) (node : Node S L D K P G C) (first : Reply S D P G C) (ReadFailed : Type 0) (r : Result ⊤ Ending) (given text mid more : Option (List ℕ))
       → first.refused ≡ None → IsOpenAndSettled g e k f s Readable on now node first.actions.items → Appends text mid (w first)
       → ((h : History S D P G C) → NodeKeeps g e k f s node h → (ended : Result ⊤ IoFault) × (r ≡ ended_of ended) × EndsIn F p w q (Answers g f s h) (AnswersBefore g f s h) ReadFailed ended given mid more)
       → (ended : Result ⊤ IoFault) × (r ≡ ended_of ended) × ServesOver g k f s F p w q Readable on now ReadFailed ended given text more
@@ -56,7 +57,7 @@ module _ {S L D P G C K : Type 0} (g : Ghosts S D P G C) (e : elector.Ghosts L S
       (this.0, this.1, record { found = settled.found; are_found = settled.are_found; first = first; taken = taken; end = settled.end; opens = settled.opens; serves = inl (mid, whole, this.2) })
 
   -- of which only a front was
-  pub served_not : (Readable : Artifact S D P G C → Type 0) (on : K) (now : ℕ) (node : Node S L D K P G C) (first : Reply S D P G C) (ReadFailed : Type 0) (why : IoFault) (given text more : Option (List ℕ))
+  pub served_not : (Readable : Artifact S D P G C → Type 0) (on : Disks K) (now : ℕ) (node : Node S L D K P G C) (first : Reply S D P G C) (ReadFailed : Type 0) (why : IoFault) (given text more : Option (List ℕ))
       → first.refused ≡ None → IsOpenAndSettled g e k f s Readable on now node first.actions.items → (why ≡ fault.Memory) ⊎ (why ≡ fault.Write) → AppendsFront text more (w first)
       → ServesOver g k f s F p w q Readable on now ReadFailed (broken_off why) given text more
   served_not Readable on now node first ReadFailed why given text more taken settled faults front =

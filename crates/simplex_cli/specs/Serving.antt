@@ -6,6 +6,7 @@ use Rattle.types_core.specs.declared.scheme.Scheme.{Ghosts}
 use Rattle.messages_certificates.specs.declared.artifact.Artifact.{Artifact}
 use Rattle.journal_single.specs.declared.disk.Disk as disk
 use Rattle.journal_single.specs.Disk.{counted}
+use Rattle.journal_books.specs.declared.disks.Disks.{Disks}
 use Rattle.node_record.specs.Ledger.{AreFoundOn}
 use Rattle.simplex_member.specs.declared.action.Reply.{Reply}
 use Rattle.simplex_member.specs.declared.event.Event.{Event}
@@ -59,8 +60,8 @@ module _ {S D P G C : Type 0} (g : Ghosts S D P G C) (f : Formats S D P G C) (s 
 
 module _ {S D P G C K : Type 0} (g : Ghosts S D P G C) (k : disk.Ghosts K) (f : Formats S D P G C) (s : Setup S D C)
     (F : D → Type 0) (p : D → List ℕ) (w : Reply S D P G C → List ℕ) (q : List ℕ → Result (D × List ℕ) CodecError) where
-  -- a record was opened over what was found on a disk, and what that hands out was written as the first reply
-  pub record ServesOver {A : Type 0} (Readable : Artifact S D P G C → Type 0) (on : K) (now : ℕ) (ReadFailed : Type 0) (ended : Result A IoFault) (given old new : Option (List ℕ)) : Type 0 where
+  -- a record was opened over what was found on disks, and what that hands out was written as the first reply
+  pub record ServesOver {A : Type 0} (Readable : Artifact S D P G C → Type 0) (on : Disks K) (now : ℕ) (ReadFailed : Type 0) (ended : Result A IoFault) (given old new : Option (List ℕ)) : Type 0 where
     pub found : List (Artifact S D P G C)
     pub are_found : AreFoundOn k f.artifact Readable on found
     pub first : Reply S D P G C
@@ -71,7 +72,7 @@ module _ {S D P G C K : Type 0} (g : Ghosts S D P G C) (k : disk.Ghosts K) (f : 
 
   -- a program opened no record, or had no memory for what that takes, and then its output is untouched; or it opened one and ran a node over
   -- streams, at whose end it ended
-  abbrev pub ComesTo : (Artifact S D P G C → Type 0) → K → ℕ → Type 0 → Type 0 → Result ⊤ Ending → Option (List ℕ) → Option (List ℕ) → Option (List ℕ) → Type 0
+  abbrev pub ComesTo : (Artifact S D P G C → Type 0) → Disks K → ℕ → Type 0 → Type 0 → Result ⊤ Ending → Option (List ℕ) → Option (List ℕ) → Option (List ℕ) → Type 0
   ComesTo Readable on now ReadFailed Untouched ended given old new =
       (((ended ≡ Err ending.Memory) ⊎ ((why : OpenFault) × (ended ≡ Err (ending.Open why)))) × Untouched)
       ⊎ ((io : Result ⊤ IoFault) × (ended ≡ ended_of io) × ServesOver Readable on now ReadFailed io given old new)

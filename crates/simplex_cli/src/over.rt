@@ -2,6 +2,7 @@
 
 ghost use Rattle.std.specs.Prelude.{◌≡◌, ◌⊎◌, ◌<◌, false, IfErr, Result, ⊤};
 ghost use Rattle.journal_single.specs.Disk.{counted};
+ghost use Rattle.journal_books.specs.declared.disks.Disks.TheVariants.{One};
 ghost use Rattle.simplex_member.specs.Setup.{setup_of};
 ghost use Rattle.node_wire.specs.Streaming.{spelled};
 ghost use Rattle.simplex_cli.specs.declared.ending.Ending.{Ending};
@@ -49,7 +50,7 @@ pub fn node_over<K: Disk, R: Source, W: Sink, F: Writes>(
         (program_committee index count) (program_rotation count) index) ⟦<Sha256Digest as Write>⟧.fits ⟦<Sha256Digest as Write>⟧.spelling
         (spelled ⟦<PlainKey as Write>⟧.spelling ⟦<Sha256Digest as Write>⟧.spelling ⟦<PlainSignature as Write>⟧.spelling
         ⟦<AttestationList<PlainSignature> as Write>⟧.spelling) (⟦<Sha256Digest as Read>⟧.reading 65535)
-        ⟦<PlainScheme as Speaks<Sha256Digest>>⟧.readable disk 0 (R.failed input.new ≡ counted false (R.failed input.old))
+        ⟦<PlainScheme as Speaks<Sha256Digest>>⟧.readable (One disk) 0 (R.failed input.new ≡ counted false (R.failed input.old))
         (output.new ≡ output.old) ended (R.remaining input.old) (W.contents output.old) (W.contents output.new) }
 {
     let (ended, disk) = drive(alloc, disk, index, count, input, output);
@@ -74,7 +75,7 @@ pub fn drive<K: Disk, R: Source, W: Sink>(
         (program_committee index count) (program_rotation count) index) ⟦<Sha256Digest as Write>⟧.fits ⟦<Sha256Digest as Write>⟧.spelling
         (spelled ⟦<PlainKey as Write>⟧.spelling ⟦<Sha256Digest as Write>⟧.spelling ⟦<PlainSignature as Write>⟧.spelling
         ⟦<AttestationList<PlainSignature> as Write>⟧.spelling) (⟦<Sha256Digest as Read>⟧.reading 65535)
-        ⟦<PlainScheme as Speaks<Sha256Digest>>⟧.readable disk 0 (R.failed input.new ≡ counted false (R.failed input.old))
+        ⟦<PlainScheme as Speaks<Sha256Digest>>⟧.readable (One disk) 0 (R.failed input.new ≡ counted false (R.failed input.old))
         (output.new ≡ output.old) result.0 (R.remaining input.old) (W.contents output.old) (W.contents output.new) }
 {
     let Ok(scheme) = scheme(alloc, index, count) else {

@@ -2,10 +2,12 @@
 
 ghost use Rattle.std.specs.Prelude.{◌≡◌, ◌⊎◌, ℕ, false, Err, Result, Some, ⊤};
 ghost use Rattle.journal_single.specs.Disk.{counted};
+ghost use Rattle.journal_books.specs.declared.disks.Disks.TheVariants.{One};
+ghost use Rattle.journal_books.specs.Books.{are_two};
 ghost use Rattle.simplex_member.specs.declared.fault.IoFault.{IoFault};
 ghost use Rattle.simplex_member.specs.declared.fault.OpenFault.{OpenFault};
 ghost use Rattle.simplex_member.specs.Setup.{setup_of};
-ghost use Rattle.node_steps.specs.Keeps.{AtOwn};
+ghost use Rattle.node_steps.specs.Keeps.{AtOwn, disks_of};
 ghost use Rattle.simplex_cli.specs.declared.ending.Ending.TheVariants.{Open};
 ghost use Rattle.simplex_cli.specs.Serving.{Answers, AnswersBefore, AreTold, ServesOver, ended_of};
 ghost use Rattle.node_wire.specs.Streaming.{EndsIn, spelled};
@@ -46,7 +48,7 @@ pub fn serve_over<S: Scheme<D> + Drop, L: Elector<S, D>, D: Digest, K: Disk, R: 
         (result.0 ≡ ended_of ended) × (S.own scheme.value ≡ Some index) × ServesOver S.Scheme K.Disk
         (⟦<S as Speaks<D>>⟧.formats (S.size scheme.value)) (setup_of S.Scheme L.Elector config scheme.value elector index) D.fits D.spelling
         (spelled S.PublicKey.spelling D.spelling S.Signature.spelling S.Certificate.spelling) (D.reading 65535) ⟦<S as Speaks<D>>⟧.readable
-        disk now (R.failed input.new ≡ counted false (R.failed input.old)) ended (R.remaining input.old) (W.contents output.old)
+        (One disk) now (R.failed input.new ≡ counted false (R.failed input.old)) ended (R.remaining input.old) (W.contents output.old)
         (W.contents output.new)) }
 {
     match open_io(alloc, config, scheme, elector, disk, now, output) {
@@ -65,6 +67,7 @@ fn serve<S: Scheme<D> + Drop, L: Elector<S, D>, D: Digest, K: Disk, R: Source, W
     input: &mut R,
     output: &mut W,
 ) -> (Result<(), Ending>, K)
+    requires { are_two (disks_of node) ≡ false }
     ensures streams { AreTold result.0 (R.failed input.old) (R.failed input.new) (W.failed output.old) (W.failed output.new)
         (W.is_flushed output.old) (W.is_flushed output.new) }
     ensures serves { AtOwn S.Scheme L.Elector K.Disk ⟦<S as Speaks<D>>⟧.formats node (λ f s h.

@@ -1,5 +1,5 @@
 -- What an append leaves of two disks.
-use Rattle.std.proofs.Common.{◌≡◌, ◌⊎◌, inl, inr, ⊎_elim, ℕ, Bool, true, false, ◌+◌, ◌-◌, ◌^◌, ◌<◌, List, [], ◌∷◌, ◌++◌, length, get_or, sym, ◌∙◌, ap, subst, arith, append_assoc, length-append}
+use Rattle.std.proofs.Common.{◌≡◌, ◌⊎◌, inl, inr, ⊎_elim, ℕ, Bool, true, false, ◌+◌, ◌-◌, ◌^◌, ◌<◌, List, [], ◌∷◌, ◌++◌, length, get_or, refl, sym, ◌∙◌, ap, subst, arith, append_assoc, length-append}
 use Rattle.std.proofs.lemmas.Bool.{cases_eq}
 use Rattle.journal_single.specs.Disk.{Call, LeavesOnly}
 use Rattle.journal_single.specs.Record.{size, AreEntries, IsFixed, Spells}
@@ -8,6 +8,7 @@ use Rattle.journal_single.specs.Images.{end_short, end_shut, entries_push, fixed
 use Rattle.simplex_journal.specs.Generation.{HasNone}
 use Rattle.simplex_journal.specs.GenerationLaws.{none_first}
 use Rattle.simplex_journal.specs.Steps.{IsClosed, IsBeingMarked}
+use Rattle.simplex_journal.specs.Leaving.{LeavesReading, ReadsAsOne}
 use Rattle.simplex_journal.specs.Reading.{ReadsAs, ReadsEither, BothLeaveOnly, IsAtRestOf, IsPairAtRest}
 use Rattle.simplex_journal.proofs.Readings.{reads_as, none_entries}
 
@@ -111,3 +112,18 @@ module _ (g gate : ℕ) (seen1 seen2 entry body : List ℕ) (calls1 calls2 : Lis
         (λ new. inr (inr (record { generation = g; reads = new; passed = r.passed })))
         (entering r.rest s short two marking))))
     second_entering true is r {calls} leaves = absurd (let never : true ≡ false = is in cc)
+
+    -- and of that disk alone
+    abbrev Either : List (List ℕ) → Type 0
+    Either read = (read ≡ bodies) ⊎ (read ≡ bodies ++ body ∷ [])
+
+    entering_one : {seen : List ℕ} {calls : List Call} (r : IsAtRestOf g seen calls gate bodies) (image : List ℕ) → IsBeingMarked (r.head ++ r.front) entry image → ReadsAsOne g Either image
+    entering_one r image marking = ⊎_elim (λ old. (bodies, old, inl refl)) (λ new. (bodies ++ body ∷ [], new, inr refl)) (entering r s short image marking)
+
+    pub first_one : (is_first : Bool) → is_first ≡ true → Rests is_first → {calls : List Call} → Leaves seen1 calls1 calls → LeavesReading is_first g calls1 calls calls2 calls2 Either
+    first_one true is r {calls} leaves = (weaker (ReadsAsOne g Either) (leaves (r.rest.head ++ r.rest.front) r.rest.closed) (λ one marking. entering_one r.rest one marking), refl)
+    first_one false is r {calls} leaves = absurd (let never : false ≡ true = is in cc)
+
+    pub second_one : (is_first : Bool) → is_first ≡ false → Rests is_first → {calls : List Call} → Leaves seen2 calls2 calls → LeavesReading is_first g calls1 calls1 calls2 calls Either
+    second_one false is r {calls} leaves = (weaker (ReadsAsOne g Either) (leaves (r.rest.head ++ r.rest.front) r.rest.closed) (λ two marking. entering_one r.rest two marking), refl)
+    second_one true is r {calls} leaves = absurd (let never : true ≡ false = is in cc)

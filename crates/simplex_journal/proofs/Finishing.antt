@@ -1,15 +1,17 @@
 -- An opening's repair, on a disk of any generation.
-use Rattle.std.proofs.Common.{◌≡◌, ◌⊎◌, inl, inr, ⊎_elim, ℕ, ◌+◌, ◌-◌, ◌<◌, List, [], ◌∷◌, ◌++◌, length, refl, sym, ◌∙◌, ap, subst, arith, length-append}
+use Rattle.std.proofs.Common.{◌≡◌, ◌⊎◌, inl, inr, ⊎_elim, Bool, true, false, ℕ, ◌+◌, ◌-◌, ◌<◌, List, [], ◌∷◌, ◌++◌, length, refl, sym, ◌∙◌, ap, subst, arith, length-append}
 use Rattle.journal_single.specs.Disk.{Call, LeavesOnly}
 use Rattle.journal_single.specs.Record.{AreEntries, Reads, IsFixed, IsFound, IsForeign}
-use Rattle.journal_single.specs.Moments.{started, weaker, stays}
-use Rattle.journal_single.specs.Images.{end_short, fixed_only}
+use Rattle.journal_single.specs.Images.{end_short}
+use Rattle.journal_single.specs.Moments.{weaker}
 use Rattle.journal_single.specs.Total.{reads_end}
 use Rattle.simplex_journal.specs.Generation.{HasNone, IsOf}
 use Rattle.simplex_journal.specs.GenerationLaws.{none_short}
 use Rattle.simplex_journal.specs.Steps.{IsClosed, IsBeingBegun, IsBeingClosed}
-use Rattle.simplex_journal.specs.Reading.{ReadsAs, IsFoundOf, IsAtRestOf, IsForeignOf}
-use Rattle.simplex_journal.proofs.Readings.{reads_as, cut_settles, gate_settles, one_reading}
+use Rattle.simplex_journal.specs.Leaving.{LeavesReading, ReadsAsOne}
+use Rattle.simplex_journal.specs.PairLooking.{IsFoundBeside, IsPairFound}
+use Rattle.simplex_journal.specs.Reading.{ReadsAs, IsFoundOf, IsAtRestOf, IsForeignOf, IsPairAtRest}
+use Rattle.simplex_journal.proofs.Readings.{reads_as, cut_settles, gate_settles}
 
 no_front : (front : List ℕ) (bodies : List (List ℕ)) → AreEntries front bodies → bodies ≡ [] → front ≡ []
 no_front front bodies entries none = subst (λ (l : List (List ℕ)). AreEntries front l) none entries
@@ -144,20 +146,35 @@ module _ {g : ℕ} {bytes : List ℕ} {gate : ℕ} {bodies : List (List ℕ)} (f
   pub closing_rests : {seen : List ℕ} {calls : List Call} → IsClosed (f.head ++ front) seen calls gate → IsAtRestOf g seen calls gate bodies
   closing_rests {seen} {calls} closed = record { head = f.head; head_is = f.head_is; front = front; entries = f.found.left.entries; closed = closed }
 
--- a disk that is asked nothing reads as before
-pub reads_on : (seen : List ℕ) (calls calls1 : List Call) (g : ℕ) (bodies : List (List ℕ)) → IsFixed seen calls → ReadsAs seen g bodies → calls1 ≡ calls → LeavesOnly calls calls1 (λ image. ReadsAs image g bodies)
-reads_on seen calls calls1 g bodies x reads is = stays (started calls (λ image. ReadsAs image g bodies) (λ image left. subst (λ (l : List ℕ). ReadsAs l g bodies) (sym (fixed_only x image left)) reads)) is
+-- the disk that is read is finished, of two
+module _ (g gate : ℕ) (bodies : List (List ℕ)) (seen1 seen2 : List ℕ) (calls1 calls2 : List Call) (is_first is_empty : Bool) (f : IsPairFound is_first g seen1 calls1 seen2 calls2 gate is_empty bodies) where
+  pub first_of : is_first ≡ true → IsFoundBeside true g seen1 calls1 seen2 calls2 gate is_empty bodies
+  first_of is = subst (λ (b : Bool). IsPairFound b g seen1 calls1 seen2 calls2 gate is_empty bodies) is f
 
--- what was found is what it reads as
-pub as_found : (seen : List ℕ) (calls calls1 : List Call) (g h gate : ℕ) (bodies xs : List (List ℕ)) → IsFoundOf h seen gate xs → ReadsAs seen g bodies → LeavesOnly calls calls1 (λ image. ReadsAs image h xs) → LeavesOnly calls calls1 (λ image. ReadsAs image g bodies)
-as_found seen calls calls1 g h gate bodies xs f reads moments =
-    let same = one_reading xs bodies (found_reads f) reads in
-    weaker (λ image. ReadsAs image g bodies) moments (λ image r. subst (λ (n : ℕ). ReadsAs image n bodies) same.0 (subst (λ (l : List (List ℕ)). ReadsAs image h l) same.1 r))
+  pub second_of : is_first ≡ false → IsFoundBeside false g seen2 calls2 seen1 calls1 gate is_empty bodies
+  second_of is = subst (λ (b : Bool). IsPairFound b g seen1 calls1 seen2 calls2 gate is_empty bodies) is f
 
--- a disk that is read and then repaired
-pub settled_by : (seen seen1 : List ℕ) (calls calls1 calls2 : List Call) (g h gate : ℕ) (bodies xs : List (List ℕ)) → seen1 ≡ seen → calls1 ≡ calls → IsFixed seen calls → IsFoundOf h seen gate xs → ReadsAs seen g bodies
-    → ((n : ℕ) (ys : List (List ℕ)) → IsFixed seen1 calls1 → IsFoundOf n seen1 gate ys → LeavesOnly calls1 calls2 (λ image. ReadsAs image n ys)) → LeavesOnly calls calls2 (λ image. ReadsAs image g bodies)
-settled_by seen seen1 calls calls1 calls2 g h gate bodies xs same is x f reads moments =
-    let fixed : IsFixed seen1 calls1 = subst (λ (l : List ℕ). IsFixed l calls1) (sym same) (subst (IsFixed seen) (sym is) x) in
-    let found : IsFoundOf h seen1 gate xs = subst (λ (l : List ℕ). IsFoundOf h l gate xs) (sym same) f in
-    as_found seen calls calls2 g h gate bodies xs f reads (subst (λ (l : List Call). LeavesOnly l calls2 (λ image. ReadsAs image h xs)) is (moments h xs fixed found))
+  module _ (seen3 : List ℕ) (calls3 : List Call) where
+    pub first_finished : is_first ≡ true → (IsFoundOf g seen1 gate bodies → IsAtRestOf g seen3 calls3 gate bodies) → IsPairAtRest is_first g seen3 calls3 seen2 calls2 gate bodies
+    first_finished is finished =
+        let here = first_of is in
+        subst (λ (b : Bool). IsPairAtRest b g seen3 calls3 seen2 calls2 gate bodies) (sym is) (record { rest = finished here.found; passed = here.passed; fixed = here.other_fixed })
+
+    pub second_finished : is_first ≡ false → (IsFoundOf g seen2 gate bodies → IsAtRestOf g seen3 calls3 gate bodies) → IsPairAtRest is_first g seen1 calls1 seen3 calls3 gate bodies
+    second_finished is finished =
+        let here = second_of is in
+        subst (λ (b : Bool). IsPairAtRest b g seen1 calls1 seen3 calls3 gate bodies) (sym is) (record { rest = finished here.found; passed = here.passed; fixed = here.other_fixed })
+
+  module _ (calls3 : List Call) where
+    abbrev Same : List (List ℕ) → Type 0
+    Same read = read ≡ bodies
+
+    pub first_finishing : is_first ≡ true → (IsFixed seen1 calls1 → IsFoundOf g seen1 gate bodies → LeavesOnly calls1 calls3 (λ image. ReadsAs image g bodies)) → LeavesReading is_first g calls1 calls3 calls2 calls2 Same
+    first_finishing is leaves =
+        let here = first_of is in
+        subst (λ (b : Bool). LeavesReading b g calls1 calls3 calls2 calls2 Same) (sym is) (weaker (ReadsAsOne g Same) (leaves here.fixed here.found) (λ image reads. (bodies, reads, refl)), refl)
+
+    pub second_finishing : is_first ≡ false → (IsFixed seen2 calls2 → IsFoundOf g seen2 gate bodies → LeavesOnly calls2 calls3 (λ image. ReadsAs image g bodies)) → LeavesReading is_first g calls1 calls1 calls2 calls3 Same
+    second_finishing is leaves =
+        let here = second_of is in
+        subst (λ (b : Bool). LeavesReading b g calls1 calls1 calls2 calls3 Same) (sym is) (weaker (ReadsAsOne g Same) (leaves here.fixed here.found) (λ image reads. (bodies, reads, refl)), refl)

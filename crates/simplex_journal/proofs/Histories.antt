@@ -22,7 +22,7 @@ use Rattle.simplex_journal.specs.declared.history.Stage.TheVariants as stage
 use Rattle.simplex_journal.specs.Reading.{ReadsPair, ReadsEither, BothLeaveOnly, IsPairReopened, IsHead, IsAtRestOf, IsPairAtRest, IsForeignOf, IsForeignPair}
 use Rattle.simplex_journal.specs.Standing.{PairStanding, IsPairRecord, IsShortList}
 use Rattle.simplex_journal.specs.PairHistory.{Both, of_both, Outlook, AsGiven, Only, Either, record_after, outlook, IsFoundOn, ReadsOn, MayFind, MayRead, AtEachEvent, Finds, Recalls, Remembers, Leaves, Comes, IsPastTheEnd, IsTrueOf, is_open, has_failed, IsReady, IsAnswer, disks_of, OnOutlook, Stands}
-use Rattle.simplex_journal.proofs.Readings.{one_pair}
+use Rattle.simplex_journal.specs.ReadingLaws.{one_pair}
 use Rattle.simplex_journal.proofs.Rewriting.{rest_reads}
 
 -- ---- moments of two disks

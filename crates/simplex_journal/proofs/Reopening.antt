@@ -1,100 +1,57 @@
 -- What an opening of two disks leaves: each moment of the one beside each moment of the other.
-use Rattle.std.proofs.Common.{◌≡◌, ◌⊎◌, inl, inr, ⊎_elim, ℕ, Bool, true, false, List, ◌∷◌, sym, ◌∙◌, ap, subst}
+use Rattle.std.proofs.Common.{◌≡◌, ◌⊎◌, inl, inr, ⊎_elim, ℕ, ◌<◌, Bool, true, false, List, [], ◌∷◌, length, sym, ◌∙◌, ap, subst}
 use Rattle.std.specs.Prelude.{Result, Ok, Err, OnOk, is_err}
 use Rattle.journal_single.specs.Disk.{Call, Synced, MayLeave, LeavesOnly}
 use Rattle.journal_single.specs.Record.{IsFixed}
-use Rattle.journal_single.specs.Moments.{weaker, and_then}
+use Rattle.journal_single.specs.Moments.{weaker, and_then, stays}
 use Rattle.journal_single.specs.Images.{fixes}
-use Rattle.journal_single.specs.Total.{reads_any}
-use Rattle.simplex_journal.specs.GenerationLaws.{number_any, one_of}
+use Rattle.simplex_journal.specs.GenerationLaws.{one_of}
 use Rattle.simplex_journal.specs.Generation.{IsNumber, IsPassed, IsChosen}
-use Rattle.simplex_journal.specs.Reading.{ReadsAs, ReadsPair, BothLeaveOnly, IsPairReopened, IsAtRestOf, IsPairAtRest, IsForeignOf, IsForeignPair}
-use Rattle.simplex_journal.proofs.Readings.{pair_any, beside_same, passing_same, number_read}
-
--- any bytes read as something
-pub record Reading (bytes : List ℕ) : Type 0 where
-  pub generation : ℕ
-  pub bodies : List (List ℕ)
-  pub reads : ReadsAs bytes generation bodies
-
-pub as_any : (bytes : List ℕ) → Reading bytes
-as_any bytes =
-    let number = number_any bytes in
-    let r = reads_any number.1.0 in
-    record { generation = number.0; bodies = r.0; reads = record { rest = number.1.0; of = number.1.1; reads = r.1 } }
-
--- It is left as before these calls, or while it is repaired: of the same generation, and reading the same.
-abbrev IsSettled : List Call → ℕ → List (List ℕ) → List ℕ → Type 0
-IsSettled calls generation bodies image = MayLeave calls image ⊎ ReadsAs image generation bodies
+use Rattle.simplex_journal.specs.Leaving.{LeavesReading, LeavesSince, MayBeReadOf, ReadsAsOne}
+use Rattle.simplex_journal.specs.LeavingLaws.{since_both, since_weaker}
+use Rattle.simplex_journal.specs.PairLooking.{IsPairFound}
+use Rattle.simplex_journal.specs.Reading.{ReadsAs, ReadsPair, BothLeaveOnly, IsPairReopened, IsFoundOf, IsForeignOf, IsForeignPair}
+use Rattle.simplex_journal.specs.ReadingLaws.{number_read, pair_any}
+use Rattle.simplex_journal.proofs.Finishing.{found_reads}
 
 pub here_reopened : (calls1 calls2 : List Call) (one two : List ℕ) → MayLeave calls1 one → MayLeave calls2 two → IsPairReopened calls1 calls2 one two
 here_reopened calls1 calls2 one two left1 left2 =
     let any = pair_any one two in
     record { before = one; before-2 = two; bodies = any.0; left = left1; left-2 = left2; reads_before = any.1; reads = any.1 }
 
-first_reopened : (calls1 calls2 : List Call) (seen1 one two : List ℕ) (g : ℕ) (bodies : List (List ℕ)) → MayLeave calls1 seen1 → ReadsAs seen1 g bodies → IsSettled calls1 g bodies one → MayLeave calls2 two
-    → IsPairReopened calls1 calls2 one two
-first_reopened calls1 calls2 seen1 one two g bodies here reads settled left2 = ⊎_elim
-    (λ left1. here_reopened calls1 calls2 one two left1 left2)
-    (λ same.
-    let any = pair_any seen1 two in
-    record {
-      before = seen1;
-      before-2 = two;
-      bodies = any.0;
-      left = here;
-      left-2 = left2;
-      reads_before = any.1;
-      reads = ⊎_elim
-          (λ r. inl (beside_same true seen1 one two g bodies any.0 reads same r))
-          (λ r. inr (passing_same false seen1 one two g bodies any.0 reads same r)) any.1;
-    }) settled
-
-second_reopened : (calls1 calls2 : List Call) (seen2 one two : List ℕ) (g : ℕ) (bodies : List (List ℕ)) → MayLeave calls2 seen2 → ReadsAs seen2 g bodies → MayLeave calls1 one → IsSettled calls2 g bodies two
-    → IsPairReopened calls1 calls2 one two
-second_reopened calls1 calls2 seen2 one two g bodies here reads left1 settled = ⊎_elim
-    (λ left2. here_reopened calls1 calls2 one two left1 left2)
-    (λ same.
-    let any = pair_any one seen2 in
-    record {
-      before = one;
-      before-2 = seen2;
-      bodies = any.0;
-      left = left1;
-      left-2 = here;
-      reads_before = any.1;
-      reads = ⊎_elim
-          (λ r. inl (passing_same true seen2 two one g bodies any.0 reads same r))
-          (λ r. inr (beside_same false seen2 two one g bodies any.0 reads same r)) any.1;
-    }) settled
-
 -- while both are synced and read
 pub both_left : (calls1 calls2 new1 new2 : List Call) → LeavesOnly calls1 new1 (MayLeave calls1) → LeavesOnly calls2 new2 (MayLeave calls2) → BothLeaveOnly calls1 new1 calls2 new2 (IsPairReopened calls1 calls2)
 both_left calls1 calls2 new1 new2 first second = weaker (λ one. LeavesOnly calls2 new2 (IsPairReopened calls1 calls2 one)) first
     (λ one left1. weaker (IsPairReopened calls1 calls2 one) second (λ two left2. here_reopened calls1 calls2 one two left1 left2))
 
--- a disk that is synced, read and repaired
-abbrev pub Settles : List ℕ → List Call → List Call → Type 0
-Settles seen mid new = (g : ℕ) (bodies : List (List ℕ)) → IsFixed seen mid → ReadsAs seen g bodies → LeavesOnly mid new (λ image. ReadsAs image g bodies)
+-- since before two disks were looked at, until what was found is kept
+pub kept_since : (P : List (List ℕ) → Type 0) (is_first is_empty : Bool) (g gate : ℕ) (bodies : List (List ℕ)) (seen1 seen2 : List ℕ) (old1 old2 mid1 mid2 new1 new2 : List Call) → IsPairFound is_first g seen1 mid1 seen2 mid2 gate is_empty bodies
+    → MayLeave old1 seen1 → MayLeave old2 seen2 → mid1 ≡ Synced seen1 ∷ old1 → mid2 ≡ Synced seen2 ∷ old2 → LeavesReading is_first g mid1 new1 mid2 new2 P → LeavesSince is_first g old1 new1 old2 new2 P
+kept_since P true is_empty g gate bodies seen1 seen2 old1 old2 mid1 mid2 new1 new2 f here1 here2 is1 is2 keeping = record {
+  seen = seen1;
+  bodies = bodies;
+  here = here1;
+  reads = found_reads f.found;
+  leaves = and_then (weaker (λ image. MayLeave old1 image ⊎ ReadsAsOne g P image) (fixes old1 mid1 seen1 here1 is1) (λ image left. inl left))
+      (weaker (λ image. MayLeave old1 image ⊎ ReadsAsOne g P image) keeping.0 (λ image reads. inr reads));
+  others = stays (fixes old2 mid2 seen2 here2 is2) keeping.1;
+}
+kept_since P false is_empty g gate bodies seen1 seen2 old1 old2 mid1 mid2 new1 new2 f here1 here2 is1 is2 keeping = record {
+  seen = seen2;
+  bodies = bodies;
+  here = here2;
+  reads = found_reads f.found;
+  leaves = and_then (weaker (λ image. MayLeave old2 image ⊎ ReadsAsOne g P image) (fixes old2 mid2 seen2 here2 is2) (λ image left. inl left))
+      (weaker (λ image. MayLeave old2 image ⊎ ReadsAsOne g P image) keeping.0 (λ image reads. inr reads));
+  others = stays (fixes old1 mid1 seen1 here1 is1) keeping.1;
+}
 
-settled : (calls mid new : List Call) (seen : List ℕ) (r : Reading seen) → MayLeave calls seen → mid ≡ Synced seen ∷ calls → Settles seen mid new → LeavesOnly calls new (IsSettled calls r.generation r.bodies)
-settled calls mid new seen r here is settles =
-    and_then (weaker (IsSettled calls r.generation r.bodies) (fixes calls mid seen here is) (λ image left. inl left))
-    (weaker (IsSettled calls r.generation r.bodies) (settles r.generation r.bodies (record { earlier = calls; is = is }) r.reads) (λ image reads. inr reads))
-
-pub first_settled : (calls1 calls2 mid1 new1 new2 : List Call) (seen1 : List ℕ) → MayLeave calls1 seen1 → mid1 ≡ Synced seen1 ∷ calls1 → Settles seen1 mid1 new1 → LeavesOnly calls2 new2 (MayLeave calls2)
-    → BothLeaveOnly calls1 new1 calls2 new2 (IsPairReopened calls1 calls2)
-first_settled calls1 calls2 mid1 new1 new2 seen1 here is settles second =
-    let r = as_any seen1 in
-    weaker (λ one. LeavesOnly calls2 new2 (IsPairReopened calls1 calls2 one)) (settled calls1 mid1 new1 seen1 r here is settles)
-    (λ one settled1. weaker (IsPairReopened calls1 calls2 one) second (λ two left2. first_reopened calls1 calls2 seen1 one two r.generation r.bodies here r.reads settled1 left2))
-
-pub second_settled : (calls1 calls2 mid2 new1 new2 : List Call) (seen2 : List ℕ) → MayLeave calls2 seen2 → mid2 ≡ Synced seen2 ∷ calls2 → Settles seen2 mid2 new2 → LeavesOnly calls1 new1 (MayLeave calls1)
-    → BothLeaveOnly calls1 new1 calls2 new2 (IsPairReopened calls1 calls2)
-second_settled calls1 calls2 mid2 new1 new2 seen2 here is settles first =
-    let r = as_any seen2 in
-    weaker (λ one. LeavesOnly calls2 new2 (IsPairReopened calls1 calls2 one)) first
-    (λ one left1. weaker (IsPairReopened calls1 calls2 one) (settled calls2 mid2 new2 seen2 r here is settles) (λ two settled2. second_reopened calls1 calls2 seen2 one two r.generation r.bodies here r.reads left1 settled2))
+-- so both read as something that a crash before might have left of both
+pub reopened_since : (is_first : Bool) (g : ℕ) (bodies : List (List ℕ)) (old new old-2 new-2 : List Call) → MayBeReadOf old old-2 bodies → LeavesSince is_first g old new old-2 new-2 (λ read. read ≡ bodies) → BothLeaveOnly old new old-2 new-2 (IsPairReopened old old-2)
+reopened_since is_first g bodies old new old-2 new-2 may o =
+    let all = since_weaker g (λ read. read ≡ bodies) (MayBeReadOf old old-2) (λ read is. subst (MayBeReadOf old old-2) (sym is) may) is_first old new old-2 new-2 o in
+    weaker (λ one. LeavesOnly old-2 new-2 (IsPairReopened old old-2 one)) (since_both g (MayBeReadOf old old-2) old new old-2 new-2 (λ read before. before) is_first all)
+    (λ one left. weaker (IsPairReopened old old-2 one) left (λ two r. record { before = r.2.0; before-2 = r.2.1; bodies = r.0; left = r.2.2; left-2 = r.2.3; reads_before = r.2.4; reads = r.1 }))
 
 -- the disk that was chosen is of this generation
 passed_by : (is_first : Bool) (chosen other : List ℕ) (g h : ℕ) → IsNumber chosen g → IsNumber chosen h → IsPassed is_first other g → IsPassed is_first other h
@@ -107,13 +64,27 @@ module _ (first second : List ℕ) (g : ℕ) where
   pub second_reads : (bodies : List (List ℕ)) → IsChosen false first second → ReadsAs second g bodies → ReadsPair first second bodies
   second_reads bodies chosen reads = inr (record { generation = g; reads = reads; passed = passed_by false second first chosen.0 g chosen.1 (number_read reads) chosen.2 })
 
-  pub first_rests : (bodies : List (List ℕ)) (gate : ℕ) (seen : List ℕ) (calls calls2 : List Call) → IsChosen true first second → ReadsAs first g bodies → IsAtRestOf g seen calls gate bodies → IsFixed second calls2
-      → IsPairAtRest true g seen calls second calls2 gate bodies
-  first_rests bodies gate seen calls calls2 chosen reads rest fixed = record { rest = rest; passed = passed_by true first second chosen.0 g chosen.1 (number_read reads) chosen.2; fixed = fixed }
+  pub first_found : (bodies : List (List ℕ)) (gate : ℕ) (is_empty : Bool) (calls calls2 : List Call) → IsChosen true first second → IsFoundOf g first gate bodies → (is_empty ≡ true → first ≡ []) → (is_empty ≡ false → gate < length first)
+      → IsFixed first calls → IsFixed second calls2 → IsPairFound true g first calls second calls2 gate is_empty bodies
+  first_found bodies gate is_empty calls calls2 chosen found none some fixed other = record {
+    found = found;
+    none = none;
+    some = some;
+    passed = passed_by true first second chosen.0 g chosen.1 (number_read (found_reads found)) chosen.2;
+    fixed = fixed;
+    other_fixed = other;
+  }
 
-  pub second_rests : (bodies : List (List ℕ)) (gate : ℕ) (seen : List ℕ) (calls calls1 : List Call) → IsChosen false first second → ReadsAs second g bodies → IsAtRestOf g seen calls gate bodies → IsFixed first calls1
-      → IsPairAtRest false g first calls1 seen calls gate bodies
-  second_rests bodies gate seen calls calls1 chosen reads rest fixed = record { rest = rest; passed = passed_by false second first chosen.0 g chosen.1 (number_read reads) chosen.2; fixed = fixed }
+  pub second_found : (bodies : List (List ℕ)) (gate : ℕ) (is_empty : Bool) (calls calls1 : List Call) → IsChosen false first second → IsFoundOf g second gate bodies → (is_empty ≡ true → second ≡ []) → (is_empty ≡ false → gate < length second)
+      → IsFixed second calls → IsFixed first calls1 → IsPairFound false g first calls1 second calls gate is_empty bodies
+  second_found bodies gate is_empty calls calls1 chosen found none some fixed other = record {
+    found = found;
+    none = none;
+    some = some;
+    passed = passed_by false second first chosen.0 g chosen.1 (number_read (found_reads found)) chosen.2;
+    fixed = fixed;
+    other_fixed = other;
+  }
 
   module _ {M : Type 0} (Fits : M → Type 0) (spelling : M → List ℕ) (place : ℕ) where
     pub first_foreign : IsChosen true first second → IsForeignOf Fits spelling first g place → IsForeignPair Fits spelling first second place
@@ -134,13 +105,3 @@ chosen_as is_first b first first1 second second1 is one two chosen =
 
 pub fixed_then : (seen seen1 seen2 : List ℕ) (calls calls1 calls2 : List Call) → seen1 ≡ seen → seen2 ≡ seen1 → calls1 ≡ Synced seen ∷ calls → calls2 ≡ calls1 → calls2 ≡ Synced seen2 ∷ calls
 fixed_then seen seen1 seen2 calls calls1 calls2 one two synced same = same ∙ synced ∙ ap (λ (l : List ℕ). Synced l ∷ calls) (sym (two ∙ one))
-
-pub first_opened : (seen1 seen1a seen1b : List ℕ) (calls1 calls1a calls1b new1 calls2 new2 : List Call) → MayLeave calls1 seen1 → seen1a ≡ seen1 → seen1b ≡ seen1a → calls1a ≡ Synced seen1 ∷ calls1 → calls1b ≡ calls1a
-    → Settles seen1b calls1b new1 → LeavesOnly calls2 new2 (MayLeave calls2) → BothLeaveOnly calls1 new1 calls2 new2 (IsPairReopened calls1 calls2)
-first_opened seen1 seen1a seen1b calls1 calls1a calls1b new1 calls2 new2 here one two synced same settles second =
-    first_settled calls1 calls2 calls1b new1 new2 seen1b (subst (MayLeave calls1) (sym (two ∙ one)) here) (fixed_then seen1 seen1a seen1b calls1 calls1a calls1b one two synced same) settles second
-
-pub second_opened : (seen2 seen2a seen2b : List ℕ) (calls2 calls2a calls2b new2 calls1 new1 : List Call) → MayLeave calls2 seen2 → seen2a ≡ seen2 → seen2b ≡ seen2a → calls2a ≡ Synced seen2 ∷ calls2 → calls2b ≡ calls2a
-    → Settles seen2b calls2b new2 → LeavesOnly calls1 new1 (MayLeave calls1) → BothLeaveOnly calls1 new1 calls2 new2 (IsPairReopened calls1 calls2)
-second_opened seen2 seen2a seen2b calls2 calls2a calls2b new2 calls1 new1 here one two synced same settles first =
-    second_settled calls1 calls2 calls2b new1 new2 seen2b (subst (MayLeave calls2) (sym (two ∙ one)) here) (fixed_then seen2 seen2a seen2b calls2 calls2a calls2b one two synced same) settles first

@@ -1,11 +1,13 @@
 -- What a rewrite leaves of two disks.
-use Rattle.std.proofs.Common.{◌≡◌, inl, inr, ⊎_elim, ℕ, Bool, true, false, not, ◌+◌, List, [], ◌∷◌, ◌++◌, length, refl, sym, ◌∙◌, ap, subst, arith, length-append}
+use Rattle.std.proofs.Common.{◌≡◌, ◌⊎◌, inl, inr, ⊎_elim, ℕ, Bool, true, false, not, ◌+◌, List, [], ◌∷◌, ◌++◌, length, refl, sym, ◌∙◌, ap, subst, arith, length-append}
 use Rattle.journal_single.specs.Disk.{Call, LeavesOnly}
 use Rattle.journal_single.specs.Record.{IsFixed}
 use Rattle.journal_single.specs.Moments.{started, weaker}
 use Rattle.journal_single.specs.Images.{reads_rest, end_short, fixed_only}
 use Rattle.simplex_journal.specs.Generation.{IsPassed, IsPassedOrWritten}
 use Rattle.simplex_journal.specs.GenerationLaws.{none_first}
+use Rattle.simplex_journal.specs.Leaving.{LeavesReading, ReadsAsOne}
+use Rattle.simplex_journal.specs.LeavingLaws.{reading_weaker}
 use Rattle.simplex_journal.specs.Reading.{ReadsAs, ReadsEither, BothLeaveOnly, SpellsGeneration, IsAtRestOf, IsPairAtRest}
 use Rattle.simplex_journal.proofs.Readings.{reads_as, none_entries, next_passes}
 
@@ -68,3 +70,22 @@ rests_on true g gate seen1 seen2 calls1 calls2 old new r = started calls1 (λ on
 rests_on false g gate seen1 seen2 calls1 calls2 old new r = started calls1 (λ one. LeavesOnly calls2 calls2 (ReadsEither old new one)) (λ one left1. started calls2 (ReadsEither old new one) (λ two left2.
     subst (λ (l : List ℕ). ReadsEither old new l two) (sym (fixed_only r.fixed one left1))
     (subst (ReadsEither old new seen1) (sym (fixed_only r.rest.closed.fixed two left2)) (inl (inr (record { generation = g; reads = rest_reads r.rest; passed = r.passed }))))))
+
+pub rests_one : (is_first : Bool) (g gate : ℕ) (seen1 seen2 : List ℕ) (calls1 calls2 : List Call) (bodies : List (List ℕ)) → IsPairAtRest is_first g seen1 calls1 seen2 calls2 gate bodies
+    → LeavesReading is_first g calls1 calls1 calls2 calls2 (λ read. read ≡ bodies)
+rests_one true g gate seen1 seen2 calls1 calls2 bodies r = (
+  started calls1 (ReadsAsOne g (λ read. read ≡ bodies)) (λ one left.
+      (bodies, subst (λ (l : List ℕ). ReadsAs l g bodies) (sym (fixed_only r.rest.closed.fixed one left)) (rest_reads r.rest), refl)),
+  refl,
+)
+rests_one false g gate seen1 seen2 calls1 calls2 bodies r = (
+  started calls2 (ReadsAsOne g (λ read. read ≡ bodies)) (λ two left.
+      (bodies, subst (λ (l : List ℕ). ReadsAs l g bodies) (sym (fixed_only r.rest.closed.fixed two left)) (rest_reads r.rest), refl)),
+  refl,
+)
+
+pub rests_either : (is_first : Bool) (g gate : ℕ) (seen1 seen2 : List ℕ) (calls1 calls2 : List Call) (bodies : List (List ℕ)) (body : List ℕ) → IsPairAtRest is_first g seen1 calls1 seen2 calls2 gate bodies
+    → LeavesReading is_first g calls1 calls1 calls2 calls2 (λ read. (read ≡ bodies) ⊎ (read ≡ bodies ++ body ∷ []))
+rests_either is_first g gate seen1 seen2 calls1 calls2 bodies body r =
+    reading_weaker g (λ read. read ≡ bodies) (λ read. (read ≡ bodies) ⊎ (read ≡ bodies ++ body ∷ [])) (λ read is. inl is) is_first calls1 calls1 calls2 calls2
+    (rests_one is_first g gate seen1 seen2 calls1 calls2 bodies r)

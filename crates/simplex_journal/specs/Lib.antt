@@ -4,3 +4,7 @@ pub mod GenerationLaws
 pub mod Reading
 pub mod Standing
 pub mod PairHistory
+pub mod PairLooking
+pub mod ReadingLaws
+pub mod Leaving
+pub mod LeavingLaws

@@ -3,6 +3,7 @@
 ghost use Rattle.std.specs.Prelude.{◌≡◌, ◌⊎◌, ◌+◌, ◌-◌, ◌<◌, ◌^◌, ◌++◌, ◌∷◌, [], Bool, List, ℕ, true, false, not, length, OnOk, is_ok};
 ghost use Rattle.journal_single.specs.Record.{Spells};
 ghost use Rattle.simplex_journal.specs.Generation.{OneCounted};
+ghost use Rattle.simplex_journal.specs.Leaving.{LeavesReading};
 ghost use Rattle.simplex_journal.specs.Reading.{IsPairAtRest, SpellsGeneration, BothLeaveOnly, ReadsEither};
 
 use crate::steps::put_marked;
@@ -37,6 +38,13 @@ pub(crate) fn add_entry<K: Disk>(
         → length body < 2 ^ 32 - 1
         → BothLeaveOnly (K.calls first.old) (K.calls first.new) (K.calls second.old) (K.calls second.new)
         (ReadsEither bodies (bodies ++ body ∷ [])) }
+    ensures one_disk { (g : ℕ) (bodies : List (List ℕ)) (body : List ℕ)
+        → K.keeps
+        → IsPairAtRest is_first g (K.seen first.old) (K.calls first.old) (K.seen second.old) (K.calls second.old) gate bodies
+        → Spells entry.now body
+        → length body < 2 ^ 32 - 1
+        → LeavesReading is_first g (K.calls first.old) (K.calls first.new) (K.calls second.old) (K.calls second.new)
+        (λ read. (read ≡ bodies) ⊎ (read ≡ bodies ++ body ∷ [])) }
     ensures cause { OneCounted (is_ok result) (K.failed first.old) (K.failed first.new) (K.failed second.old) (K.failed second.new) }
 {
     if is_first {

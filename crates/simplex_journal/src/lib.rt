@@ -7,6 +7,7 @@ mod choosing;
 mod disks;
 mod fault;
 mod history;
+mod laws;
 mod number;
 mod opening;
 mod pair;
@@ -20,4 +21,5 @@ pub use journal_single::{
     BOUND, Crash, Disk, DiskFault, Entries, Event, FileDisk, Found, History, Journal, JournalFault,
     MemoryDisk, Request, a_disk_reads_as_one_record, read_entries, run,
 };
-pub use pair::Pair;
+pub use laws::{a_pair_at_rest_leaves_its_record, two_disks_read_as_one_record};
+pub use pair::{FoundPair, Pair};

@@ -6,6 +6,8 @@ ghost use Rattle.simplex_journal.specs.declared.fault.PairFault.TheVariants.{Dev
 ghost use Rattle.journal_single.specs.Disk.{MayLeave, LeavesOnly, Synced, counted};
 ghost use Rattle.journal_single.specs.Record.{IsFixed, FitsBelow};
 ghost use Rattle.simplex_journal.specs.Generation.{OneCounted};
+ghost use Rattle.simplex_journal.specs.Leaving.{LeavesReading};
+ghost use Rattle.simplex_journal.specs.PairLooking.{AreLeftAsTheyWere, IsPairFound};
 ghost use Rattle.simplex_journal.specs.Reading.{ReadsAs, ReadsPair, IsFoundOf, IsForeignOf, IsForeignPair, IsAtRestOf, IsPairAtRest, BothLeaveOnly, IsPairReopened};
 
 use crate::choosing::is_first_read;
@@ -91,41 +93,6 @@ fn read_record<M: Read + Drop, K: Disk>(
     }
 }
 
-/// Reads the record of a disk and closes its last gate.
-fn settle<M: Read + Drop, K: Disk>(alloc: Global, disk: &mut K) -> Result<Found<M>, PairFault>
-    ensures ok { IfOk result (λ found.
-        K.keeps → IsAtRestOf found.generation (K.seen disk.new) (K.calls disk.new) found.gate (map M.spelling found.messages.items)) }
-    ensures fitting { IfOk result (λ found. All (FitsBelow (2 ^ 32 - 1) (Readable M.fits (M.within BOUND)) M.spelling) found.messages.items) }
-    ensures reading { IfOk result (λ found. K.keeps → ReadsAs (K.seen disk.old) found.generation (map M.spelling found.messages.items)) }
-    // A crash at any moment leaves a disk of the same generation that reads the same.
-    ensures any_moment { (g : ℕ) (bodies : List (List ℕ))
-        → K.keeps
-        → IsFixed (K.seen disk.old) (K.calls disk.old)
-        → ReadsAs (K.seen disk.old) g bodies
-        → LeavesOnly (K.calls disk.old) (K.calls disk.new) (λ image. ReadsAs image g bodies) }
-    ensures room { IfOk result (λ found. found.gate < 2 ^ 63) }
-    ensures seen_of_others { IfErr result (λ fault. fault ≢ Device → K.keeps → K.seen disk.new ≡ K.seen disk.old) }
-    ensures calls_of_others { IfErr result (λ fault. fault ≢ Device → K.keeps → K.calls disk.new ≡ K.calls disk.old) }
-    ensures device { IsErrOf result PairFault.Device → K.failed disk.new ≡ counted false (K.failed disk.old) }
-    ensures no_fault { OnOk result (K.failed disk.new ≡ K.failed disk.old) }
-    ensures no_fault_of_others { IfErr result (λ fault. fault ≢ Device → K.failed disk.new ≡ K.failed disk.old) }
-    ensures foreign { IfErr result (λ fault.
-        (place : ℕ)
-        → fault ≡ Foreign place
-        → K.keeps
-        → (g : ℕ) × IsForeignOf (FitsBelow (2 ^ 32 - 1) (Readable M.fits (M.within BOUND)) M.spelling) M.spelling (K.seen disk.old) g place) }
-    ensures faults { IfErr result (λ fault. (fault ≡ Device) ⊎ ((fault ≡ Memory) ⊎ ((place : ℕ) × (fault ≡ Foreign place)))) }
-{
-    let (found, is_empty) = match read_record(alloc, disk) {
-        Ok(read) => read,
-        Err(fault) => return Err(fault),
-    };
-    match finish(disk, found.gate, is_empty) {
-        Ok(()) => Ok(found),
-        Err(_) => Err(PairFault::Device),
-    }
-}
-
 /// Syncs two disks: what was found may go on only once it is fixed, or a crash could still take it back.
 fn sync_both<K: Disk>(first: &mut K, second: &mut K) -> Result<(), DiskFault>
     ensures fixed { OnOk result (K.keeps
@@ -141,30 +108,27 @@ fn sync_both<K: Disk>(first: &mut K, second: &mut K) -> Result<(), DiskFault>
     Ok(())
 }
 
-/// Syncs two disks, chooses the one that is read, and settles its record. Answers it, and whether the first
-/// disk was chosen.
-pub(crate) fn open_disks<M: Read + Drop, K: Disk>(
+/// Syncs two disks, chooses the one that is read, and reads its record. Answers it, whether the first disk
+/// was chosen, and whether the chosen one is empty.
+pub(crate) fn look_at_disks<M: Read + Drop, K: Disk>(
     alloc: Global,
     first: &mut K,
     second: &mut K,
-) -> Result<(Found<M>, bool), PairFault>
-    ensures ok { IfOk result (λ opened.
+) -> Result<(Found<M>, bool, bool), PairFault>
+    ensures found { IfOk result (λ looked.
         K.keeps
-        → IsPairAtRest opened.1 opened.0.generation (K.seen first.new) (K.calls first.new) (K.seen second.new) (K.calls second.new)
-        opened.0.gate (map M.spelling opened.0.messages.items)) }
-    ensures fitting { IfOk result (λ opened. All (FitsBelow (2 ^ 32 - 1) (Readable M.fits (M.within BOUND)) M.spelling) opened.0.messages.items) }
-    ensures reading { IfOk result (λ opened. K.keeps → ReadsPair (K.seen first.old) (K.seen second.old) (map M.spelling opened.0.messages.items)) }
-    // After a crash at any moment both read as something that a crash before the opening might have left of both.
+        → IsPairFound looked.1 looked.0.generation (K.seen first.new) (K.calls first.new) (K.seen second.new) (K.calls second.new)
+        looked.0.gate looked.2 (map M.spelling looked.0.messages.items)) }
+    ensures fitting { IfOk result (λ looked. All (FitsBelow (2 ^ 32 - 1) (Readable M.fits (M.within BOUND)) M.spelling) looked.0.messages.items) }
+    ensures reading { IfOk result (λ looked. K.keeps → ReadsPair (K.seen first.old) (K.seen second.old) (map M.spelling looked.0.messages.items)) }
+    // After a crash at any moment both read as something that a crash before the call might have left of both.
     ensures any_moment { K.keeps
         → BothLeaveOnly (K.calls first.old) (K.calls first.new) (K.calls second.old) (K.calls second.new)
         (IsPairReopened (K.calls first.old) (K.calls second.old)) }
-    ensures room { IfOk result (λ opened. opened.0.gate < 2 ^ 63) }
-    // After any other fault than the disks' own nothing was written or cut.
-    ensures untouched { IfErr result (λ fault.
-        fault ≢ Device
-        → K.keeps
-        → (K.calls first.new ≡ Synced (K.seen first.new) ∷ K.calls first.old) ×
-        (K.calls second.new ≡ Synced (K.seen second.new) ∷ K.calls second.old)) }
+    ensures room { IfOk result (λ looked. looked.0.gate < 2 ^ 63) }
+    ensures untouched { OnOk result (K.keeps → AreLeftAsTheyWere K.seen K.calls first.old second.old first.new second.new) }
+    ensures untouched_by_others { IfErr result
+        (λ fault. fault ≢ Device → K.keeps → AreLeftAsTheyWere K.seen K.calls first.old second.old first.new second.new) }
     ensures device { IsErrOf result PairFault.Device
         → OneCounted false (K.failed first.old) (K.failed first.new) (K.failed second.old) (K.failed second.new) }
     ensures no_fault { OnOk result ((K.failed first.new ≡ K.failed first.old) × (K.failed second.new ≡ K.failed second.old)) }
@@ -185,13 +149,41 @@ pub(crate) fn open_disks<M: Read + Drop, K: Disk>(
         return Err(PairFault::Device);
     };
     if is_first {
-        return match settle(alloc, first) {
-            Ok(found) => Ok((found, true)),
+        return match read_record(alloc, first) {
+            Ok((found, is_empty)) => Ok((found, true, is_empty)),
             Err(fault) => Err(fault),
         };
     }
-    match settle(alloc, second) {
-        Ok(found) => Ok((found, false)),
+    match read_record(alloc, second) {
+        Ok((found, is_empty)) => Ok((found, false, is_empty)),
         Err(fault) => Err(fault),
     }
+}
+
+/// Closes the last gate of the disk that is read, or writes its first one.
+pub(crate) fn finish_chosen<K: Disk>(
+    first: &mut K,
+    second: &mut K,
+    is_first: bool,
+    gate: u64,
+    is_empty: bool,
+) -> Result<(), DiskFault>
+    requires room { gate < 2 ^ 63 }
+    requires found { K.keeps
+        → (g : ℕ) × (bodies : List (List ℕ)) × IsPairFound is_first g (K.seen first.old) (K.calls first.old) (K.seen second.old)
+        (K.calls second.old) gate is_empty bodies }
+    ensures ok { OnOk result ((g : ℕ) (bodies : List (List ℕ))
+        → K.keeps
+        → IsPairFound is_first g (K.seen first.old) (K.calls first.old) (K.seen second.old) (K.calls second.old) gate is_empty bodies
+        → IsPairAtRest is_first g (K.seen first.new) (K.calls first.new) (K.seen second.new) (K.calls second.new) gate bodies) }
+    ensures any_moment { (g : ℕ) (bodies : List (List ℕ))
+        → K.keeps
+        → IsPairFound is_first g (K.seen first.old) (K.calls first.old) (K.seen second.old) (K.calls second.old) gate is_empty bodies
+        → LeavesReading is_first g (K.calls first.old) (K.calls first.new) (K.calls second.old) (K.calls second.new) (λ read. read ≡ bodies) }
+    ensures cause { OneCounted (is_ok result) (K.failed first.old) (K.failed first.new) (K.failed second.old) (K.failed second.new) }
+{
+    if is_first {
+        return finish(first, gate, is_empty);
+    }
+    finish(second, gate, is_empty)
 }

@@ -3,18 +3,20 @@
 ghost use Rattle.std.specs.Prelude.{◌≡◌, ◌≢◌, ◌⊎◌, ◌+◌, ◌-◌, ◌<◌, ◌≤◌, ◌^◌, ◌++◌, [], ◌∷◌, List, ℕ, length, map, All, true, false, IfOk, IfErr, OnOk, IsErrOf, is_ok};
 ghost use Rattle.types_codec.specs.Codec.{Readable};
 ghost use Rattle.simplex_journal.specs.declared.fault.PairFault.TheVariants.{Device, Exhausted, Failed, Foreign, Memory, TooLong};
-ghost use Rattle.journal_single.specs.Disk.{MayLeave, Synced};
+ghost use Rattle.journal_single.specs.Disk.{Call, MayLeave, Synced};
 ghost use Rattle.journal_single.specs.Journal.{IsTooLong};
 ghost use Rattle.journal_single.specs.Record.{FitsBelow};
 ghost use Rattle.simplex_journal.specs.Generation.{OneCounted};
+ghost use Rattle.simplex_journal.specs.Leaving.{LeavesReading, LeavesSince};
+ghost use Rattle.simplex_journal.specs.PairLooking.{AreLeftAsTheyWere, HasFoundPair, IsAskedBefore};
 ghost use Rattle.simplex_journal.specs.Reading.{ReadsPair, ReadsEither, BothLeaveOnly, IsPairReopened, IsForeignPair};
 ghost use Rattle.simplex_journal.specs.Standing.{IsPairRecord, IsShortList};
 
 use crate::disks::{add_entry, rewrite_other};
 use crate::fault::PairFault;
-use crate::opening::open_disks;
+use crate::opening::{finish_chosen, look_at_disks};
 use crate::spelling::{LAST_GATE, TOO_LONG, is_short, spell_generation};
-use journal_single::{BOUND, Disk, spelled};
+use journal_single::{BOUND, Disk, DiskFault, spelled};
 use std::alloc::Global;
 use std::marker::{Model, PhantomData};
 use types_core::{EncodeSize, Read};
@@ -100,21 +102,74 @@ impl<M: Read + EncodeSize + Drop, K: Disk> Pair<M, K> {
             → K.keeps
             → (K.calls refused.1 ≡ Synced (K.seen refused.1) ∷ K.calls first) × (K.calls refused.2 ≡ Synced (K.seen refused.2) ∷ K.calls second)) }
     {
+        match Self::look(alloc, first, second) {
+            Ok((found, messages)) => match found.keep() {
+                Ok(pair) => Ok((pair, messages)),
+                Err((_, first, second)) => Err((PairFault::Device, first, second)),
+            },
+            Err(refused) => Err(refused),
+        }
+    }
+
+    /// Looks at two disks as [`Pair::open`] does, and writes and cuts nothing: syncs both, chooses the one
+    /// that is read, and reads it. Answers what was found with all messages of its record, so that they can
+    /// be judged before it is kept; or the fault with both disks.
+    ///
+    /// # Errors
+    ///
+    /// [`PairFault::Device`], [`PairFault::Memory`] and [`PairFault::Foreign`].
+    pub fn look(
+        alloc: Global,
+        first: K,
+        second: K,
+    ) -> Result<(FoundPair<M, K>, Vec<M>), (PairFault, K, K)>
+        ensures found { IfOk result (λ looked. K.keeps → HasFoundPair K.seen K.calls M.spelling looked.0 looked.1.items) }
+        ensures readable { IfOk result (λ looked. All (FitsBelow (2 ^ 32 - 1) (Readable M.fits (M.within BOUND)) M.spelling) looked.1.items) }
+        ensures reading { IfOk result (λ looked. K.keeps → ReadsPair (K.seen first) (K.seen second) (map M.spelling looked.1.items)) }
+        ensures before { IfOk result (λ looked. K.keeps → IsAskedBefore K.seen K.calls looked.0 (K.calls first) (K.calls second)) }
+        ensures untouched { IfOk result (λ looked. K.keeps → AreLeftAsTheyWere K.seen K.calls first second looked.0.first looked.0.second) }
+        ensures untouched_by_others { IfErr result
+            (λ refused. refused.0 ≢ Device → K.keeps → AreLeftAsTheyWere K.seen K.calls first second refused.1 refused.2) }
+
+        // After a crash at any moment both read as something that a crash before the look might have left of both.
+        ensures any_moment { IfOk result (λ looked.
+            K.keeps
+            → BothLeaveOnly (K.calls first) (K.calls looked.0.first) (K.calls second) (K.calls looked.0.second)
+            (IsPairReopened (K.calls first) (K.calls second))) }
+        ensures any_moment_of_a_fault { IfErr result (λ refused.
+            K.keeps
+            → BothLeaveOnly (K.calls first) (K.calls refused.1) (K.calls second) (K.calls refused.2)
+            (IsPairReopened (K.calls first) (K.calls second))) }
+
+        ensures device { IfErr result
+            (λ refused. refused.0 ≡ Device → OneCounted false (K.failed first) (K.failed refused.1) (K.failed second) (K.failed refused.2)) }
+        ensures no_fault { IfOk result
+            (λ looked. (K.failed looked.0.first ≡ K.failed first) × (K.failed looked.0.second ≡ K.failed second)) }
+        ensures no_fault_of_others { IfErr result
+            (λ refused. refused.0 ≢ Device → (K.failed refused.1 ≡ K.failed first) × (K.failed refused.2 ≡ K.failed second)) }
+        ensures foreign { IfErr result (λ refused.
+            (place : ℕ)
+            → refused.0 ≡ Foreign place
+            → K.keeps
+            → IsForeignPair (FitsBelow (2 ^ 32 - 1) (Readable M.fits (M.within BOUND)) M.spelling) M.spelling (K.seen first) (K.seen second)
+            place) }
+        ensures faults { IfErr result (λ refused. (refused.0 ≡ Device) ⊎ ((refused.0 ≡ Memory) ⊎ ((place : ℕ) × (refused.0 ≡ Foreign place)))) }
+    {
         let mut first = first;
         let mut second = second;
-        match open_disks(alloc, &mut first, &mut second) {
-            Ok((found, is_first)) => {
-                let pair = Pair {
+        match look_at_disks(alloc, &mut first, &mut second) {
+            Ok((record, is_first, is_empty)) => {
+                let found = FoundPair {
                     alloc,
                     first,
                     second,
                     is_first,
-                    generation: found.generation,
-                    gate: found.gate,
-                    failed: false,
+                    generation: record.generation,
+                    gate: record.gate,
+                    is_empty,
                     messages: PhantomData,
                 };
-                Ok((pair, found.messages))
+                Ok((found, record.messages))
             }
             Err(fault) => Err((fault, first, second)),
         }
@@ -173,6 +228,16 @@ impl<M: Read + EncodeSize + Drop, K: Disk> Pair<M, K> {
             → IsPairRecord M.spelling K.seen K.calls self.old messages
             → BothLeaveOnly (K.calls self.old.first) (K.calls self.new.first) (K.calls self.old.second) (K.calls self.new.second)
             (ReadsEither (map M.spelling messages) (map M.spelling messages ++ M.spelling message.now ∷ [])) }
+
+        // More than that: it leaves so the one disk that is read, and of the other nothing is asked.
+        ensures one_disk { (messages : List M)
+            → K.keeps
+            → IsPairRecord M.spelling K.seen K.calls self.old messages
+            → LeavesReading self.old.is_first self.old.generation (K.calls self.old.first) (K.calls self.new.first) (K.calls self.old.second)
+            (K.calls self.new.second)
+            (λ read. (read ≡ map M.spelling messages) ⊎ (read ≡ map M.spelling messages ++ M.spelling message.now ∷ [])) }
+        ensures which { self.new.is_first ≡ self.old.is_first }
+        ensures generation { self.new.generation ≡ self.old.generation }
 
         ensures readable { self.old.failed ≡ false → M.fits message.now }
         ensures stays_open { OnOk result (self.new.failed ≡ false) }
@@ -289,5 +354,103 @@ impl<M: Read + EncodeSize + Drop, K: Disk> Pair<M, K> {
                 Err(PairFault::Device)
             }
         }
+    }
+}
+
+/// What an opening found on two disks, before anything is written or cut.
+#[derive(Drop)]
+pub struct FoundPair<M: Read + EncodeSize, K: Disk> {
+    alloc: Global,
+    first: K,
+    second: K,
+    is_first: bool,
+    generation: u32,
+    gate: u64,
+    is_empty: bool,
+    messages: PhantomData<M>,
+}
+
+impl<M: Read + EncodeSize, K: Disk> Model for FoundPair<M, K> {
+    ghost use Rattle.std.specs.Prelude.{◌^◌, ◌<◌, List};
+    ghost use Rattle.simplex_journal.specs.PairLooking.{LookedPair, HasFoundPair};
+
+    ghost Value = { LookedPair K };
+
+    ghost view = { λ f. record
+        { first = f.first; second = f.second; is_first = f.is_first; generation = f.generation; gate = f.gate; is_empty = f.is_empty } };
+
+    ghost invariant = { λ f. (f.gate < 2 ^ 63) × (K.keeps → (messages : List M) × HasFoundPair K.seen K.calls M.spelling
+        (record { first = f.first; second = f.second; is_first = f.is_first; generation = f.generation; gate = f.gate; is_empty = f.is_empty })
+        messages) };
+}
+
+impl<M: Read + EncodeSize + Drop, K: Disk> FoundPair<M, K> {
+    /// Makes the journal of what was found: cuts behind the record's last gate, and closes that gate.
+    ///
+    /// # Errors
+    ///
+    /// A call of a disk failed. With both disks.
+    pub fn keep(self) -> Result<Pair<M, K>, (DiskFault, K, K)>
+        ensures record { IfOk result (λ pair.
+            (messages : List M)
+            → K.keeps
+            → HasFoundPair K.seen K.calls M.spelling self messages
+            → IsPairRecord M.spelling K.seen K.calls pair messages) }
+        ensures fresh { IfOk result (λ pair. pair.failed ≡ false) }
+
+        // After a crash at any moment since before the look the disk that is read is as one before the look might have left it, or reads
+        // as what was found; the other is as one before the look might have left it.
+        ensures any_moment { IfOk result (λ pair.
+            (messages : List M) (before before-2 : List Call)
+            → K.keeps
+            → HasFoundPair K.seen K.calls M.spelling self messages
+            → IsAskedBefore K.seen K.calls self before before-2
+            → LeavesSince pair.is_first pair.generation before (K.calls pair.first) before-2 (K.calls pair.second)
+            (λ read. read ≡ map M.spelling messages)) }
+        ensures any_moment_of_a_fault { IfErr result (λ refused.
+            (messages : List M) (before before-2 : List Call)
+            → K.keeps
+            → HasFoundPair K.seen K.calls M.spelling self messages
+            → IsAskedBefore K.seen K.calls self before before-2
+            → LeavesSince self.is_first self.generation before (K.calls refused.1) before-2 (K.calls refused.2)
+            (λ read. read ≡ map M.spelling messages)) }
+
+        ensures device { IfErr result
+            (λ refused. OneCounted false (K.failed self.first) (K.failed refused.1) (K.failed self.second) (K.failed refused.2)) }
+        ensures no_fault { IfOk result (λ pair. (K.failed pair.first ≡ K.failed self.first) × (K.failed pair.second ≡ K.failed self.second)) }
+    {
+        let FoundPair {
+            alloc,
+            first,
+            second,
+            is_first,
+            generation,
+            gate,
+            is_empty,
+            messages,
+        } = self;
+        let mut first = first;
+        let mut second = second;
+        match finish_chosen(&mut first, &mut second, is_first, gate, is_empty) {
+            Ok(()) => Ok(Pair {
+                alloc,
+                first,
+                second,
+                is_first,
+                generation,
+                gate,
+                failed: false,
+                messages,
+            }),
+            Err(failed) => Err((failed, first, second)),
+        }
+    }
+
+    /// Gives both disks back, as they were found, in their order.
+    pub fn close(self) -> (K, K)
+        ensures first { result.0 ≡ self.first }
+        ensures second { result.1 ≡ self.second }
+    {
+        (self.first, self.second)
     }
 }

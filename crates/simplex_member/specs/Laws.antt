@@ -66,7 +66,7 @@ use Rattle.simplex_resolver.specs.RepairHistory as repair
 use Rattle.simplex_member.specs.Deeds.{Deed, Sends, Serves, Blocks, Reports, all_deeds, deeds_of}
 use Rattle.simplex_member.specs.Layers.{current_of, finalized_of, floor_of, is_begun, known_of, repair_of, stage, voter_of, votes_of, votes_setup, Collected, IsUp}
 use Rattle.simplex_member.specs.Lives.{Life, Lives, Members, LiveByNodes, AtMostFLie, AreFaithful, HandedOut, CameIn, IsHonestVote, WasHanded, points_of}
-use Rattle.simplex_member.specs.Member.{AreOpening, Goes, NoneDue, Run, AreStep, ReadsAs, after}
+use Rattle.simplex_member.specs.Member.{AreOpening, Goes, NoneDue, Run, AreStep, after}
 use Rattle.simplex_member.specs.Packet.{Formats, IsReadable, IsRecordable, Packet, of_vote, of_certificate, of_ask, packet_channel, packet_of}
 use Rattle.simplex_member.specs.Point.{Point, Opened, Began, Constructs, Heard, Wanted, Asks, Repeats, Votes, History}
 use Rattle.simplex_member.specs.Recorded.{added_by, notarization_in, record_of, recorded_by, reported}
@@ -316,7 +316,7 @@ module _ {S D P G C : Type 0} (g : Ghosts S D P G C) (f : Formats S D P G C) (s 
   -- an image reads as one record alone: so what an opening finds is what was left, and lives follow one another as `Lives` says
   abbrev pub OneIsRead : (Artifact S D P G C → Type 0) → Type 0
   OneIsRead Fits = (h : History S D P G C) (image : List ℕ) (found : List (Artifact S D P G C)) → All Fits (record_of h) → All Fits found
-      → ReadsAs g f s image h → Reads image (map f.artifact found) → found ≡ record_of h
+      → Reads image (map f.artifact (record_of h)) → Reads image (map f.artifact found) → found ≡ record_of h
 
   -- what a life leaves is lawful: an opening never answers that it contradicts
   abbrev pub LivesLeaveLawful : Type 0

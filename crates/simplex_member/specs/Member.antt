@@ -16,7 +16,6 @@ use Rattle.voter_laws.specs.Missing.{IsMissing}
 use Rattle.batcher_verifier.specs.History.{forwardable, leader_of, next_kind}
 use Rattle.simplex_resolver.specs.declared.ask.Ask.{Ask}
 use Rattle.simplex_resolver.specs.declared.ask.Kind as repair
-use Rattle.journal_single.specs.Record.{Reads}
 use Rattle.simplex_member.specs.declared.action.Action.{Action}
 use Rattle.simplex_member.specs.declared.action.Reply.{Reply}
 use Rattle.simplex_member.specs.declared.event.Event.{Event}
@@ -186,15 +185,15 @@ module _ {S D P G C : Type 0} (g : Ghosts S D P G C) (f : Formats S D P G C) (s 
 
   -- ---- a crash at any moment
 
-  -- an image reads as the record of a history
-  abbrev pub ReadsAs : List ℕ → History S D P G C → Type 0
-  ReadsAs image h = Reads image (map f.artifact (record_of h))
+  -- what is read is the record of a history: a body for each artifact
+  abbrev pub ReadsAs : List (List ℕ) → History S D P G C → Type 0
+  ReadsAs read h = read ≡ map f.artifact (record_of h)
 
-  -- an image reads as what a step over this event may leave: the record before it, or that at a point of it
-  abbrev pub IsReached : History S D P G C → Event D → List ℕ → Type 0
-  IsReached h e image = ReadsAs image h
-      ⊎ ((points : List (Point S D P G C)) × (end : History S D P G C) × AreStep h e points × Goes h points end × ReadsAs image end)
+  -- what is read is what a step over this event may leave: the record before it, or that at a point of it
+  abbrev pub IsReached : History S D P G C → Event D → List (List ℕ) → Type 0
+  IsReached h e read = ReadsAs read h
+      ⊎ ((points : List (Point S D P G C)) × (end : History S D P G C) × AreStep h e points × Goes h points end × ReadsAs read end)
 
-  -- an image reads as what an opening that found these may leave: the record at a point of it, once it went through what was found
-  abbrev pub IsOpened : ℕ → List (Artifact S D P G C) → List ℕ → Type 0
-  IsOpened now found image = (points : List (Point S D P G C)) × (end : History S D P G C) × AreOpening now found points × Goes [] points end × ReadsAs image end
+  -- what is read is what an opening that found these may leave: the record at a point of it, once it went through what was found
+  abbrev pub IsOpened : ℕ → List (Artifact S D P G C) → List (List ℕ) → Type 0
+  IsOpened now found read = (points : List (Point S D P G C)) × (end : History S D P G C) × AreOpening now found points × Goes [] points end × ReadsAs read end

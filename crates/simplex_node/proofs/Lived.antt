@@ -1,5 +1,5 @@
 -- What lives leave: one more behind those before it, by what it answered, and what a crash inside it leaves.
-use Rattle.std.proofs.Common.{◌≡◌, inl, inr, ℕ, List, [], ◌∷◌, ◌++◌, length, Option, Some, None, refl, sym, ap, ◌∙◌, subst, append_assoc, map, arith}
+use Rattle.std.proofs.Common.{◌≡◌, ◌⊎◌, inl, inr, ℕ, List, [], ◌∷◌, ◌++◌, length, Option, Some, None, refl, sym, ap, ◌∙◌, subst, append_assoc, map, arith}
 use Rattle.std.specs.Prelude.{All, IfSome, MatchOption, option_map, option_to_list}
 use Rattle.std.proofs.lemmas.List.{append-nil}
 use Rattle.std.proofs.lemmas.Option.{same_Some}
@@ -10,6 +10,7 @@ use Rattle.journal_single.specs.declared.disk.Disk as disk
 use Rattle.journal_single.specs.Disk.{Call, LeavesOnly, MayLeave}
 use Rattle.journal_single.specs.Moments.{and_then, weaker}
 use Rattle.journal_single.specs.Record.{IsForeign, Reads}
+use Rattle.journal_books.specs.declared.disks.Disks.TheVariants.{One}
 use Rattle.simplex_member.specs.declared.action.Action.{Action}
 use Rattle.simplex_member.specs.declared.action.Reply.{Reply}
 use Rattle.simplex_member.specs.declared.event.Event.{Event}
@@ -22,7 +23,7 @@ use Rattle.simplex_member.specs.Deeds.{AreActions}
 use Rattle.simplex_member.specs.First.{IsFirst}
 use Rattle.simplex_member.specs.Lives.{Broken, Course, Lasting, Life, Lived, Lives, Refuses, Turn, Turns, Went, turn_events}
 use Rattle.simplex_member.specs.Member as whole
-use Rattle.simplex_member.specs.Member.{Goes, AreActionsOf, IsReached, ReadsAs, Run, Steps, Takes, after}
+use Rattle.simplex_member.specs.Member.{Goes, AreActionsOf, IsReached, Run, Steps, Takes, after}
 use Rattle.simplex_member.specs.Packet.{Formats}
 use Rattle.simplex_member.specs.Point.{Point, History}
 use Rattle.simplex_member.specs.Recorded.{record_of}
@@ -34,8 +35,8 @@ use Rattle.node_record.specs.Ledger.{AreFoundOn, IsContradiction}
 use Rattle.node_steps.specs.Opening.{MayBeLeftOpen, early, open_tests}
 use Rattle.simplex_node.specs.declared.living.Answered.{Answered}
 use Rattle.simplex_node.specs.declared.living.Opening.{Opening}
-use Rattle.simplex_node.specs.Living.{AreLivesOf, AreReplies, BeginsNone, FailsFor, Gives, IsLeftByLives, IsLeftByTurns, IsLifeOf, MayLeaveOnly, Tells, Try, setup_by, tried}
-use Rattle.simplex_node.specs.Running.{IsPassed, LeavesAtMost}
+use Rattle.simplex_node.specs.Living.{AreLivesOf, AreReplies, BeginsNone, FailsFor, Gives, IsLeftByLives, IsLeftByTurns, IsLifeOf, MayLeaveOnly, OnImage, Tells, Try, setup_by, tried}
+use Rattle.simplex_node.specs.Running.{IsPassed}
 
 some-none : {X : Type 0} (x : X) → Some x ≡ None → ⊥
 some-none x e = cc e
@@ -97,7 +98,7 @@ module _ {S D P G C : Type 0} (g : Ghosts S D P G C) (f : Formats S D P G C) whe
 
     -- all events were answered
     pub turns-whole : (h : History S D P G C) (events : List (Event D)) (replies : List (Reply S D P G C)) (end : History S D P G C) (fault : Option NodeFault) (image : List ℕ)
-        → Run g f s h events replies end → ReadsAs g f s image end → IsLeftByTurns g f s h events replies fault image
+        → Run g f s h events replies end → Reads image (map f.artifact (record_of end)) → IsLeftByTurns g f s h events replies fault image
     turns-whole h events replies end fault image run reads =
         let t = run-turns h events replies end run in
         record {
@@ -115,7 +116,7 @@ module _ {S D P G C : Type 0} (g : Ghosts S D P G C) (f : Formats S D P G C) whe
         }
 
     -- none was
-    pub turns-none : (h : History S D P G C) (events : List (Event D)) (why : NodeFault) (image : List ℕ) → ReadsAs g f s image h → IsLeftByTurns g f s h events [] (Some why) image
+    pub turns-none : (h : History S D P G C) (events : List (Event D)) (why : NodeFault) (image : List ℕ) → Reads image (map f.artifact (record_of h)) → IsLeftByTurns g f s h events [] (Some why) image
     turns-none h events why image reads = record {
       turns = [];
       last = h;
@@ -132,14 +133,14 @@ module _ {S D P G C : Type 0} (g : Ghosts S D P G C) (f : Formats S D P G C) whe
 
     -- those before one were, and the step over that may have been cut off
     pub turns-cut : (h : History S D P G C) (events before behind : List (Event D)) (event : Event D) (replies : List (Reply S D P G C)) (mid : History S D P G C) (why : NodeFault) (image : List ℕ)
-        → events ≡ before ++ event ∷ behind → Run g f s h before replies mid → IsReached g f s mid event image → IsLeftByTurns g f s h events replies (Some why) image
-    turns-cut h events before behind event replies mid why image is run reached = by reached
+        → events ≡ before ++ event ∷ behind → Run g f s h before replies mid → OnImage (IsReached g f s mid event) image → IsLeftByTurns g f s h events replies (Some why) image
+    turns-cut h events before behind event replies mid why image is run (read, reads, reached) = by reached
       where
         t : RunTurns h before replies mid
         t = run-turns h before replies mid run
 
-        by : IsReached g f s mid event image → IsLeftByTurns g f s h events replies (Some why) image
-        by (inl reads) = record {
+        by : IsReached g f s mid event read → IsLeftByTurns g f s h events replies (Some why) image
+        by (inl same) = record {
           turns = t.turns;
           last = mid;
           cut = None;
@@ -149,10 +150,10 @@ module _ {S D P G C : Type 0} (g : Ghosts S D P G C) (f : Formats S D P G C) whe
           replied = t.replied;
           left = event ∷ behind;
           split = is ∙ ap (λ (l : List (Event D)). l ++ event ∷ behind) (sym t.over ∙ sym (append-nil (turn_events t.turns)));
-          whole = λ same. absurd (some-none why same);
-          reads = reads;
+          whole = λ none. absurd (some-none why none);
+          reads = subst (λ (bodies : List (List ℕ)). Reads image bodies) same reads;
         }
-        by (inr (points, end, step, goes, reads)) = record {
+        by (inr (points, end, step, goes, same)) = record {
           turns = t.turns;
           last = mid;
           cut = Some (event, points);
@@ -162,14 +163,14 @@ module _ {S D P G C : Type 0} (g : Ghosts S D P G C) (f : Formats S D P G C) whe
           replied = t.replied;
           left = behind;
           split = is ∙ sym (append_assoc before (event ∷ []) behind) ∙ ap (λ (l : List (Event D)). (l ++ event ∷ []) ++ behind) (sym t.over);
-          whole = λ same. absurd (some-none why same);
-          reads = reads;
+          whole = λ none. absurd (some-none why none);
+          reads = subst (λ (bodies : List (List ℕ)). Reads image bodies) same reads;
         }
 
-    pub turns-passed : (h : History S D P G C) (events : List (Event D)) (image : List ℕ) → (passed : IsPassed g f s h events image)
-        → IsLeftByTurns g f s h events passed.replies (Some node_fault.Memory) image
+    pub turns-passed : (h : History S D P G C) (events : List (Event D)) (image : List ℕ) → (passed : OnImage (IsPassed g f s h events) image)
+        → IsLeftByTurns g f s h events passed.2.replies (Some node_fault.Memory) image
     turns-passed h events image passed =
-        turns-cut h events passed.before passed.behind passed.event passed.replies passed.mid node_fault.Memory image passed.split passed.run passed.reached
+        turns-cut h events passed.2.before passed.2.behind passed.2.event passed.2.replies passed.2.mid node_fault.Memory image passed.2.split passed.2.run (passed.0, passed.1, passed.2.reached)
 
     -- turns to which no fault is told were over all events
     pub over-all : (events : List (Event D)) (turns : List (Turn S D P G C)) (cut : Option (Event D × List (Point S D P G C))) (left : List (Event D))
@@ -272,7 +273,7 @@ module _ {S L D P G C : Type 0} (g : Ghosts S D P G C) (e : elector.Ghosts L S D
     -- one life more
     pub left-more : (answer : Option (Answered S D P G C)) (seen image : List ℕ) (is : Left before seen) (course : Course S D P G C) (end : History S D P G C)
         → IsLifeOf g e f s.me o (record { setup = t; course = course }) → Gives g e f s.me o answer (record { setup = t; course = course })
-        → Lived g f t is.left course end → ReadsAs g f t image end → Left (before ++ trial o answer ∷ []) image
+        → Lived g f t is.left course end → Reads image (map f.artifact (record_of end)) → Left (before ++ trial o answer ∷ []) image
     left-more answer seen image is course end life gives lived reads = record {
       lives = is.lives ++ (record { setup = t; course = course }) ∷ [];
       left = record_of end;
@@ -291,30 +292,30 @@ module _ {S L D P G C : Type 0} (g : Ghosts S D P G C) (e : elector.Ghosts L S D
       at-start = start (k.seen on) seen
 
       -- what is found is what was left
-      pub found-left : (found : List (Artifact S D P G C)) → AreFoundOn k f.artifact Readable on found → found ≡ at-start.left
+      pub found-left : (found : List (Artifact S D P G C)) → AreFoundOn k f.artifact Readable (One on) found → found ≡ at-start.left
       found-left found are = found_is at-start.lives at-start.left found (k.seen on) at-start.lived at-start.reads are.readable (are.reads keeps)
 
       -- what a crash inside the opening leaves, and one that failed
       pub left-open : (answer : Option (Answered S D P G C)) → BeginsNone g e f s.me o answer
           → ((points : List (Point S D P G C)) → Gives g e f s.me o answer (record { setup = t; course = Broken o.now points }))
-          → (image : List ℕ) → MayBeLeftOpen g e k f t Readable on o.now image → Left (before ++ trial o answer ∷ []) image
-      left-open answer begins gives image (inl reopened) =
-          let was = start reopened.before reopened.left in
+          → (image : List ℕ) → OnImage (MayBeLeftOpen g e k f t Readable (One on) o.now) image → Left (before ++ trial o answer ∷ []) image
+      left-open answer begins gives image (read, reads, inl (before-image, left_before, reads_before)) =
+          let was = start before-image left_before in
           left-none before o answer begins image (record {
             lives = was.lives;
             left = was.left;
             are = was.are;
             lived = was.lived;
-            reads = subst (λ (bodies : List (List ℕ)). Reads image bodies) (one_record reopened.before reopened.bodies (map f.artifact was.left) reopened.reads_before was.reads) reopened.reads;
+            reads = subst (λ (bodies : List (List ℕ)). Reads image bodies) (one_record before-image read (map f.artifact was.left) reads_before was.reads) reads;
           })
-      left-open answer begins gives image (inr (found, are, opened)) = left-more answer (k.seen on) image at-start (Broken o.now opened.0) opened.1
+      left-open answer begins gives image (read, reads, inr (found, are, opened)) = left-more answer (k.seen on) image at-start (Broken o.now opened.0) opened.1
           (record { setup = refl; now = refl; left = o.events.items; events = refl }) (gives opened.0)
           (subst (λ (xs : List (Artifact S D P G C)). Lived g f t xs (Broken o.now opened.0) opened.1) (found-left found are) (opened.2, opened.3))
-          opened.4
+          (subst (λ (bodies : List (List ℕ)). Reads image bodies) opened.4 reads)
 
       -- what turns behind the opening leave
       pub left-turned : (answer : Option (Answered S D P G C)) (found : List (Artifact S D P G C)) (first : List (Action S D P G C)) (mid : History S D P G C) (replies : List (Reply S D P G C)) (fault : Option NodeFault)
-          → AreFoundOn k f.artifact Readable on found → (opens : whole.Opens g f t o.now found first mid) → (image : List ℕ) → (is : IsLeftByTurns g f t mid o.events.items replies fault image)
+          → AreFoundOn k f.artifact Readable (One on) found → (opens : whole.Opens g f t o.now found first mid) → (image : List ℕ) → (is : IsLeftByTurns g f t mid o.events.items replies fault image)
           → Gives g e f s.me o answer (record { setup = t; course = Lasting o.now opens.points is.turns is.cut })
           → Left (before ++ trial o answer ∷ []) image
       left-turned answer found first mid replies fault are opens image is gives =
@@ -343,7 +344,7 @@ module _ {S L D P G C : Type 0} (g : Ghosts S D P G C) (e : elector.Ghosts L S D
         owner-same : owner_of t ≡ owner_of s
         owner-same = ap (λ (n : ℕ). owner_by n t.voter.length t.me) one.epoch ∙ ap (λ (n : ℕ). owner_by s.voter.epoch n t.me) one.length ∙ ap (λ (n : ℕ). owner_by s.voter.epoch s.voter.length n) one.me
 
-        no-contradiction : (position : ℕ) → IsContradiction k f.artifact Readable (g.attests o.scheme.value) (g.certifies o.scheme.value) (owner_of t) on position → ⊥
+        no-contradiction : (position : ℕ) → IsContradiction k f.artifact Readable (g.attests o.scheme.value) (g.certifies o.scheme.value) (owner_of t) (One on) position → ⊥
         no-contradiction position (found, are, refused) =
             lawful at-start.lives at-start.left position at-start.lived
             (subst (λ (xs : List (Artifact S D P G C)). IsRefusedAt (g.attests s.voter.scheme) (g.certifies s.voter.scheme) (owner_of s) xs position) (found-left found are)
@@ -353,7 +354,7 @@ module _ {S L D P G C : Type 0} (g : Ghosts S D P G C) (e : elector.Ghosts L S D
         pub fails : (X : Type 0) (why : OpenFault) → IfSome (early why) (λ x. IsFirst (open_tests g t o.config o.now) (Some x) × X) → (early why ≡ None → IsFirst (open_tests g t o.config o.now) None)
             → ((place : ℕ) → why ≡ open_fault.Foreign place → k.keeps → IsForeign [] Readable f.artifact (k.seen on) place)
             → ((position : ℕ) → why ≡ open_fault.Contradiction position
-            → IsContradiction k f.artifact Readable (g.attests o.scheme.value) (g.certifies o.scheme.value) (owner_of t) on position)
+            → IsContradiction k f.artifact Readable (g.attests o.scheme.value) (g.certifies o.scheme.value) (owner_of t) (One on) position)
             → FailsFor g e f s.me o why
         fails X open_fault.NoKey told later foreign contradiction = (told.0, λ none. absurd (some-none open_fault.NoKey none))
         fails X (open_fault.Config x) told later foreign contradiction = (told.0, λ none. absurd (some-none (open_fault.Config x) none))
@@ -366,7 +367,7 @@ module _ {S L D P G C : Type 0} (g : Ghosts S D P G C) (e : elector.Ghosts L S D
         fails X open_fault.Memory told later foreign contradiction = (later refl, λ none. inl refl)
 
 -- a stretch in which lives left what they may, and at most one behind it
-pub leaves-on : {old mid new : List Call} {P Q : List ℕ → Type 0} (R : List ℕ → Type 0) → LeavesOnly old mid P → ((image : List ℕ) → P image → R image) → LeavesAtMost mid new Q
+pub leaves-on : {old mid new : List Call} {P Q : List ℕ → Type 0} (R : List ℕ → Type 0) → LeavesOnly old mid P → ((image : List ℕ) → P image → R image) → (new ≡ mid) ⊎ LeavesOnly mid new Q
     → ((image : List ℕ) → Q image → R image) → LeavesOnly old new R
 leaves-on {old} {mid} {new} {P} {Q} R first here (inl same) there = subst (λ (l : List Call). LeavesOnly old l R) (sym same) (weaker R first here)
 leaves-on {old} {mid} {new} {P} {Q} R first here (inr second) there = and_then (weaker R first here) (weaker R second there)

@@ -4,7 +4,8 @@ use Rattle.std.specs.Prelude.{Result, Ok, Err}
 use Rattle.types_core.specs.declared.scheme.Scheme.{Ghosts}
 use Rattle.types_terms.specs.declared.elector.Elector as elector
 use Rattle.journal_single.specs.declared.disk.Disk as disk
-use Rattle.journal_single.specs.Disk.{counted}
+use Rattle.journal_books.specs.Books.{HasFailed, HasNotFailed, are_two}
+use Rattle.journal_books.specs.BooksLaws.{failed_then, not_failed_then, same_kind, same_kind_failed, same_not_failed}
 use Rattle.simplex_member.specs.declared.action.Reply.{Reply}
 use Rattle.simplex_member.specs.declared.event.Event.{Event}
 use Rattle.simplex_member.specs.declared.fault.NodeFault.{NodeFault}
@@ -13,7 +14,7 @@ use Rattle.simplex_member.specs.Packet.{Formats}
 use Rattle.simplex_member.specs.Point.{History}
 use Rattle.simplex_member.specs.Setup.{Setup}
 use Rattle.node_steps.specs.declared.node.Node.{Node}
-use Rattle.node_steps.specs.Keeps.{NodeKeeps, disk_of, has_failed}
+use Rattle.node_steps.specs.Keeps.{NodeKeeps, book_of, disks_of, has_failed}
 use Rattle.node_wire.specs.Stepper.{Answer, AnswerBefore, AnswersNone}
 use Rattle.simplex_node.specs.Running.{IsPassed, LeavesAtMost, RunFails, RunsTo}
 use Rattle.simplex_node.specs.Stepping.{IsStep}
@@ -43,27 +44,37 @@ module _ {S L D P G C K : Type 0} (g : Ghosts S D P G C) (e : elector.Ghosts L S
       let (is, still) = a.failed.refused_if_failed (subst (λ (n : Node S L D K P G C). has_failed n ≡ true) (sym same) failed) in
       (still ∙ same, none, no_replies, ap (told why) is)
 
-  -- the disk fails at no step that answers
-  pub same_faults : (old new : Node S L D K P G C) (events : List (Event D)) (replies : List (Reply S D P G C)) → Answer (IsStep g e k formats) old new events replies → k.failed (disk_of new) ≡ k.failed (disk_of old)
-  same_faults old new [] [] same = subst (λ (n : Node S L D K P G C). k.failed (disk_of n) ≡ k.failed (disk_of old)) (sym same) refl
+  -- no disk fails at a step that answers
+  pub same_faults : (old new : Node S L D K P G C) (events : List (Event D)) (replies : List (Reply S D P G C)) → Answer (IsStep g e k formats) old new events replies → HasNotFailed k (disks_of old) (disks_of new)
+  same_faults old new [] [] same = subst (λ (n : Node S L D K P G C). HasNotFailed k (disks_of old) (disks_of n)) (sym same) (same_not_failed k (disks_of old))
   same_faults old new [] (r ∷ replies) answer = absurd answer
   same_faults old new (x ∷ events) [] answer = absurd answer
-  same_faults old new (x ∷ events) (r ∷ replies) answer = same_faults answer.0 new events replies answer.2 ∙ answer.1.no_fault
+  same_faults old new (x ∷ events) (r ∷ replies) answer = not_failed_then k (disks_of old) (disks_of answer.0) (disks_of new) answer.1.no_fault (same_faults answer.0 new events replies answer.2)
 
-  -- at a step that fails it has failed once more
+  -- at a step that fails one has failed once more
   pub one_fault : (old new : Node S L D K P G C) (events : List (Event D)) (replies : List (Reply S D P G C)) (event : Event D) (why : NodeFault) → AnswerBefore (IsStep g e k formats) old new events replies event why
-      → why ≡ Device → k.failed (disk_of new) ≡ counted false (k.failed (disk_of old))
-  one_fault old new events replies event why a is = subst (λ (n : ℕ). k.failed (disk_of new) ≡ counted false n) (same_faults old a.before events replies a.answer) (a.failed.device (ap Err is))
+      → why ≡ Device → HasFailed k (disks_of old) (disks_of new)
+  one_fault old new events replies event why a is = failed_then k (disks_of old) (disks_of a.before) (disks_of new) (same_faults old a.before events replies a.answer) (a.failed.device (ap Err is))
 
   -- but where something else is told
-  step_without : (old new : Node S L D K P G C) (event : Event D) (why : NodeFault) → IsStep g e k formats old event (Err why) new → why ≢ Device → k.failed (disk_of new) ≡ k.failed (disk_of old)
+  step_without : (old new : Node S L D K P G C) (event : Event D) (why : NodeFault) → IsStep g e k formats old event (Err why) new → why ≢ Device → HasNotFailed k (disks_of old) (disks_of new)
   step_without old new event Memory step other = step.no_device refl
   step_without old new event Device step other = absurd (other refl)
-  step_without old new event Failed step other = subst (λ (n : Node S L D K P G C). k.failed (disk_of n) ≡ k.failed (disk_of old)) (sym (step.refused_if_failed (step.failed_before refl)).1) refl
+  step_without old new event Failed step other = subst (λ (n : Node S L D K P G C). HasNotFailed k (disks_of old) (disks_of n)) (sym (step.refused_if_failed (step.failed_before refl)).1) (same_not_failed k (disks_of old))
 
   pub no_fault : (old new : Node S L D K P G C) (events : List (Event D)) (replies : List (Reply S D P G C)) (event : Event D) (why : NodeFault) → AnswerBefore (IsStep g e k formats) old new events replies event why
-      → why ≢ Device → k.failed (disk_of new) ≡ k.failed (disk_of old)
-  no_fault old new events replies event why a other = step_without a.before new event why a.failed other ∙ same_faults old a.before events replies a.answer
+      → why ≢ Device → HasNotFailed k (disks_of old) (disks_of new)
+  no_fault old new events replies event why a other = not_failed_then k (disks_of old) (disks_of a.before) (disks_of new) (same_faults old a.before events replies a.answer) (step_without a.before new event why a.failed other)
+
+  -- the disks are as many as before
+  pub as_many : (old new : Node S L D K P G C) (events : List (Event D)) (replies : List (Reply S D P G C)) → Answer (IsStep g e k formats) old new events replies → are_two (disks_of new) ≡ are_two (disks_of old)
+  as_many old new events replies answer = same_kind k (disks_of old) (disks_of new) (same_faults old new events replies answer)
+
+  pub as_many_too : (old new : Node S L D K P G C) (events : List (Event D)) (replies : List (Reply S D P G C)) (event : Event D) (why : NodeFault) → AnswerBefore (IsStep g e k formats) old new events replies event why
+      → are_two (disks_of new) ≡ are_two (disks_of old)
+  as_many_too old new events replies event Device a = same_kind_failed k (disks_of old) (disks_of new) (one_fault old new events replies event Device a refl)
+  as_many_too old new events replies event Memory a = same_kind k (disks_of old) (disks_of new) (no_fault old new events replies event Memory a (λ is. absurd (cc is)))
+  as_many_too old new events replies event Failed a = same_kind k (disks_of old) (disks_of new) (no_fault old new events replies event Failed a (λ is. absurd (cc is)))
 
   module _ (s : Setup S D C) where
     -- steps that answer are a run
@@ -94,16 +105,16 @@ module _ {S L D P G C K : Type 0} (g : Ghosts S D P G C) (e : elector.Ghosts L S
 
     -- what a crash meanwhile leaves
     pub leaves : (events : List (Event D)) (replies : List (Reply S D P G C)) (h : History S D P G C) (old new : Node S L D K P G C) → NodeKeeps g e k (formats (g.size s.voter.scheme)) s old h → k.keeps
-        → Answer (IsStep g e k formats) old new events replies → LeavesAtMost (k.calls (disk_of old)) (k.calls (disk_of new)) (IsPassed g (formats (g.size s.voter.scheme)) s h events)
-    leaves [] [] h old new keeps kept same = inl (subst (λ (n : Node S L D K P G C). k.calls (disk_of n) ≡ k.calls (disk_of old)) (sym same) refl)
+        → Answer (IsStep g e k formats) old new events replies → LeavesAtMost k (book_of old) (book_of new) (IsPassed g (formats (g.size s.voter.scheme)) s h events)
+    leaves [] [] h old new keeps kept same = inl (subst (λ (n : Node S L D K P G C). book_of n ≡ book_of old) (sym same) refl)
     leaves [] (r ∷ replies) h old new keeps kept answer = absurd answer
     leaves (x ∷ events) [] h old new keeps kept answer = absurd answer
     leaves (x ∷ events) (r ∷ replies) h old new keeps kept answer =
         let (end, step, stands) = answer.1.ok s h keeps in
-        leaves_behind g (formats (g.size s.voter.scheme)) s h end x r events (k.calls (disk_of old)) (k.calls (disk_of answer.0)) (k.calls (disk_of new)) step (answer.1.any_moment s h keeps kept) (leaves events replies end answer.0 new stands kept answer.2)
+        leaves_behind g (formats (g.size s.voter.scheme)) s k h end x r events (book_of old) (book_of answer.0) (book_of new) step (answer.1.any_moment s h keeps kept) (leaves events replies end answer.0 new stands kept answer.2)
 
     pub leaves_too : (events : List (Event D)) (replies : List (Reply S D P G C)) (event : Event D) (why : NodeFault) (h : History S D P G C) (old new : Node S L D K P G C) → NodeKeeps g e k (formats (g.size s.voter.scheme)) s old h → k.keeps
-        → AnswerBefore (IsStep g e k formats) old new events replies event why → LeavesAtMost (k.calls (disk_of old)) (k.calls (disk_of new)) (IsPassed g (formats (g.size s.voter.scheme)) s h (events ++ event ∷ []))
+        → AnswerBefore (IsStep g e k formats) old new events replies event why → LeavesAtMost k (book_of old) (book_of new) (IsPassed g (formats (g.size s.voter.scheme)) s h (events ++ event ∷ []))
     leaves_too events replies event why h old new keeps kept a =
         let run = runs events replies h old a.before keeps a.answer in
-        leaves_on g (formats (g.size s.voter.scheme)) s h run.end events replies event (k.calls (disk_of old)) (k.calls (disk_of a.before)) (k.calls (disk_of new)) run.run (leaves events replies h old a.before keeps kept a.answer) (a.failed.any_moment s run.end run.keeps kept)
+        leaves_on g (formats (g.size s.voter.scheme)) s k h run.end events replies event (book_of old) (book_of a.before) (book_of new) run.run (leaves events replies h old a.before keeps kept a.answer) (a.failed.any_moment s run.end run.keeps kept)

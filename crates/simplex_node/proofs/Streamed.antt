@@ -5,7 +5,7 @@ use Rattle.types_codec.specs.declared.codec.CodecError.{CodecError}
 use Rattle.types_core.specs.declared.scheme.Scheme.{Ghosts}
 use Rattle.types_terms.specs.declared.elector.Elector as elector
 use Rattle.journal_single.specs.declared.disk.Disk as disk
-use Rattle.journal_single.specs.Disk.{counted}
+use Rattle.journal_books.specs.Books.{HasFailed, HasNotFailed, are_two}
 use Rattle.simplex_member.specs.declared.action.Reply.{Reply}
 use Rattle.simplex_member.specs.declared.fault.IoFault.{IoFault}
 use Rattle.simplex_member.specs.declared.fault.IoFault.TheVariants as fault
@@ -15,13 +15,13 @@ use Rattle.simplex_member.specs.Packet.{Formats}
 use Rattle.simplex_member.specs.Point.{History}
 use Rattle.simplex_member.specs.Setup.{Setup}
 use Rattle.node_steps.specs.declared.node.Node.{Node}
-use Rattle.node_steps.specs.Keeps.{NodeKeeps, disk_of, has_failed}
+use Rattle.node_steps.specs.Keeps.{NodeKeeps, book_of, disks_of, has_failed}
 use Rattle.node_wire.specs.Over.{ends_as, ends_by, ends_over}
 use Rattle.node_wire.specs.Stepper.{Answer, AnswerBefore}
 use Rattle.node_wire.specs.Streaming.{EndsIn}
 use Rattle.simplex_node.specs.Running.{IsPassed, LeavesAtMost, LeavesPassed, RunFails, RunsTo}
 use Rattle.simplex_node.specs.Stepping.{IsStep}
-use Rattle.simplex_node.proofs.Stepped.{failed_stays, failed_stays_too, leaves, leaves_too, no_fault, one_fault, runs, runs_fail, same_faults}
+use Rattle.simplex_node.proofs.Stepped.{as_many, as_many_too, failed_stays, failed_stays_too, leaves, leaves_too, no_fault, one_fault, runs, runs_fail, same_faults}
 
 -- the reason that is told of a step
 abbrev told : {A : Type 0} → NodeFault → Result A IoFault → NodeFault
@@ -45,15 +45,20 @@ module _ {S L D P G C K A : Type 0} (g : Ghosts S D P G C) (e : elector.Ghosts L
       ends_by F p w q (Answer (IsStep g e k formats) old new) (AnswerBefore (IsStep g e k formats) old new) ReadFailed r given text more
       (λ events replies a not. (failed_stays g e k formats old new events replies failed a).0) (λ events replies event y same a. (failed_stays_too g e k formats old new events replies event y failed a).0) ends
 
-  pub io_device : r ≡ Err (fault.Node Device) → k.failed (disk_of new) ≡ counted false (k.failed (disk_of old))
+  pub io_device : r ≡ Err (fault.Node Device) → HasFailed k (disks_of old) (disks_of new)
   io_device is =
       ends_by F p w q (Answer (IsStep g e k formats) old new) (AnswerBefore (IsStep g e k formats) old new) ReadFailed r given text more
       (λ events replies a not. absurd (not Device is)) (λ events replies event y same a. one_fault g e k formats old new events replies event y a (ap (told Device) (sym same ∙ is))) ends
 
-  pub io_no_device : r ≢ Err (fault.Node Device) → k.failed (disk_of new) ≡ k.failed (disk_of old)
+  pub io_no_device : r ≢ Err (fault.Node Device) → HasNotFailed k (disks_of old) (disks_of new)
   io_no_device other =
       ends_by F p w q (Answer (IsStep g e k formats) old new) (AnswerBefore (IsStep g e k formats) old new) ReadFailed r given text more
       (λ events replies a not. same_faults g e k formats old new events replies a) (λ events replies event y same a. no_fault g e k formats old new events replies event y a (λ is. other (same ∙ ap (λ (x : NodeFault). Err (fault.Node x)) is))) ends
+
+  pub io_as_many : are_two (disks_of new) ≡ are_two (disks_of old)
+  io_as_many =
+      ends_by F p w q (Answer (IsStep g e k formats) old new) (AnswerBefore (IsStep g e k formats) old new) ReadFailed r given text more
+      (λ events replies a not. as_many g e k formats old new events replies a) (λ events replies event y same a. as_many_too g e k formats old new events replies event y a) ends
 
   module _ (s : Setup S D C) (h : History S D P G C) (keeps : NodeKeeps g e k (formats (g.size s.voter.scheme)) s old h) where
     pub io_answers : EndsIn F p w {A = A} q (RunsTo g e k (formats (g.size s.voter.scheme)) s h new) (RunFails g e k (formats (g.size s.voter.scheme)) s h new) ReadFailed r given text more
@@ -61,8 +66,8 @@ module _ {S L D P G C K A : Type 0} (g : Ghosts S D P G C) (e : elector.Ghosts L
         ends_as F p w q (Answer (IsStep g e k formats) old new) (AnswerBefore (IsStep g e k formats) old new) ReadFailed (RunsTo g e k (formats (g.size s.voter.scheme)) s h new) (RunFails g e k (formats (g.size s.voter.scheme)) s h new)
         (λ events replies a. runs g e k formats s events replies h old new keeps a) (λ events replies event why a. runs_fail g e k formats s events replies event why h old new keeps a) r given text more ends
 
-    pub io_leaves : k.keeps → LeavesPassed g (formats (g.size s.voter.scheme)) s F p h given (k.calls (disk_of old)) (k.calls (disk_of new))
+    pub io_leaves : k.keeps → LeavesPassed g (formats (g.size s.voter.scheme)) s k F p h given (book_of old) (book_of new)
     io_leaves kept =
-        let (events, read, left) = ends_over F p w q (Answer (IsStep g e k formats) old new) (AnswerBefore (IsStep g e k formats) old new) ReadFailed (λ events. LeavesAtMost (k.calls (disk_of old)) (k.calls (disk_of new)) (IsPassed g (formats (g.size s.voter.scheme)) s h events)) r given text more
+        let (events, read, left) = ends_over F p w q (Answer (IsStep g e k formats) old new) (AnswerBefore (IsStep g e k formats) old new) ReadFailed (λ events. LeavesAtMost k (book_of old) (book_of new) (IsPassed g (formats (g.size s.voter.scheme)) s h events)) r given text more
         (λ events replies a. leaves g e k formats s events replies h old new keeps kept a) (λ events replies event why a. leaves_too g e k formats s events replies event why h old new keeps kept a) ends in
         record { events = events; read = read; leaves = left }

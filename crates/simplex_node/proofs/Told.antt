@@ -1,5 +1,5 @@
 -- What one opening answers, and leaves, over what lives have left; and what several do.
-use Rattle.std.proofs.Common.{◌≡◌, ◌≤◌, ℕ, List, [], ◌∷◌, ◌++◌, length, false, Option, Some, None, refl, sym, ap, ◌∙◌, subst, append_assoc, arith}
+use Rattle.std.proofs.Common.{◌≡◌, ◌⊎◌, inl, inr, ◌≤◌, ℕ, Bool, map, List, [], ◌∷◌, ◌++◌, length, false, Option, Some, None, refl, sym, ap, ◌∙◌, subst, append_assoc, arith}
 use Rattle.std.specs.declared.vec.Vec.{Vec}
 use Rattle.std.specs.declared.alloc.Global.{Global}
 use Rattle.std.specs.Prelude.{All, Contains, IfSome}
@@ -13,6 +13,13 @@ use Rattle.journal_single.specs.declared.disk.Disk as disk
 use Rattle.journal_single.specs.Disk.{LeavesOnly, MayLeave, counted}
 use Rattle.journal_single.specs.Moments.{and_then, at_last, started, weaker}
 use Rattle.journal_single.specs.Record.{IsForeign, Reads}
+use Rattle.journal_single.specs.Total.{reads_any}
+use Rattle.journal_books.specs.declared.books.Books.{Books}
+use Rattle.journal_books.specs.declared.disks.Disks.{Disks}
+use Rattle.journal_books.specs.Books as words
+use Rattle.journal_books.specs.declared.disks.Disks.TheVariants.{One, Two}
+use Rattle.journal_books.specs.Books.{HasFailed, HasNotFailed, IsBook, Leave, MayBeRead, are_two}
+use Rattle.journal_books.specs.BooksLaws.{book_leaves, left_last}
 use Rattle.simplex_member.specs.declared.action.Action.{Action}
 use Rattle.simplex_member.specs.declared.action.Reply.{Reply}
 use Rattle.simplex_member.specs.declared.event.Event.{Event}
@@ -23,20 +30,21 @@ use Rattle.simplex_member.specs.declared.fault.OpenFault.TheVariants as open_fau
 use Rattle.simplex_member.specs.First.{IsFirst}
 use Rattle.simplex_member.specs.Laws.{LeftIsFound, NeverContradicts, NeverForeign}
 use Rattle.simplex_member.specs.Lives.{Lasting}
-use Rattle.simplex_member.specs.Member.{ReadsAs}
+use Rattle.simplex_member.specs.Member.{IsReached, ReadsAs}
 use Rattle.simplex_member.specs.Packet.{Formats}
 use Rattle.simplex_member.specs.Point.{History}
+use Rattle.simplex_member.specs.Recorded.{record_of}
 use Rattle.simplex_member.specs.Setup.{IsOfOneMember, Setup, owner_of}
 use Rattle.node_record.specs.Ledger.{IsContradiction}
 use Rattle.node_steps.specs.declared.node.Node.{Node}
-use Rattle.node_steps.specs.Keeps.{AtOwn, NodeKeeps, disk_of}
+use Rattle.node_steps.specs.Keeps.{AtOwn, NodeKeeps, book_of, disks_of}
 use Rattle.node_steps.specs.Opening.{IsOpenAndSettled, MayBeLeftOpen, early, open_tests}
 use Rattle.node_wire.specs.declared.listing.Answers.{Answers}
 use Rattle.node_wire.specs.Stepper.{EndsList}
 use Rattle.simplex_node.specs.declared.living.Answered.{Answered}
 use Rattle.simplex_node.specs.declared.living.Answered.TheVariants.{NotOpened, Opened}
 use Rattle.simplex_node.specs.declared.living.Opening.{Opening}
-use Rattle.simplex_node.specs.Living.{AreOfOneMember, FailsFor, Gives, IsLeftByLives, IsLeftByTurns, MayLeaveOnly, OverLives, Tells, Try, failures_behind, setup_by, spares_disk, tells_none, tried}
+use Rattle.simplex_node.specs.Living.{AreOfOneMember, FailsFor, Gives, IsLeftByLives, IsLeftByTurns, MayLeaveOnly, OnImage, OverLives, Tells, Try, failures_behind, setup_by, spares_disk, tells_none, tried}
 use Rattle.simplex_node.specs.Running.{IsPassed, LeavesAtMost, RunFails, RunsTo}
 use Rattle.simplex_node.proofs.Lived.{fails, leaves-on, left-none, left-open, left-told, left-turned, left-untold, same-index, tried-more, tried-none, turns-cut, turns-passed, turns-whole}
 
@@ -64,14 +72,14 @@ module _ {S L D P G C K : Type 0} (g : Ghosts S D P G C) (e : elector.Ghosts L S
   -- ---- it opened
 
   module _ (node : Node S L D K P G C) (first : List (Action S D P G C))
-      (opened : (index : ℕ) × (g.own o.scheme.value ≡ Some index) × IsOpenAndSettled g e k f (setup_by g e index o) Readable on o.now node first) where
+      (opened : (index : ℕ) × (g.own o.scheme.value ≡ Some index) × IsOpenAndSettled g e k f (setup_by g e index o) Readable (One on) o.now node first) where
     pub opened-told : (kept : Answered S D P G C) (actions : Vec (Action S D P G C) Global) (answers : Answers S D P G C) → kept ≡ Opened actions answers → actions.items ≡ first
         → AtOwn g e k formats node (λ f s h. k.keeps → MayLeaveOnly (k.calls new) (IsLeftByTurns g f s h o.events.items answers.replies.items answers.fault))
         → OverLives g e k formats on (o ∷ []) (λ Left. MayLeaveOnly (k.calls new) (Left (tried (o ∷ []) (kept ∷ []))))
     opened-told kept actions answers told same ran =
         over-lives (λ Left. MayLeaveOnly (k.calls new) (Left (tried (o ∷ []) (kept ∷ []))))
         (λ s before own small keeps one start image left.
-        let is = same-index {P = λ index. IsOpenAndSettled g e k f (setup_by g e index o) Readable on o.now node first} opened own in
+        let is = same-index {P = λ index. IsOpenAndSettled g e k f (setup_by g e index o) Readable (One on) o.now node first} opened own in
         let turns = ran (setup_by g e s.me o) is.end is.keeps keeps image left in
         left-turned g e f s before o one k Readable on keeps one_record (found_is (g.size o.scheme.value) small s) start (seen keeps) (Some kept) is.found first is.end answers.replies.items
         answers.fault is.are_found is.opens image turns
@@ -79,24 +87,25 @@ module _ {S L D P G C K : Type 0} (g : Ghosts S D P G C) (e : elector.Ghosts L S
         (subst (λ (l : List (Action S D P G C)). Tells g f (setup_by g e s.me o) o.events.items l answers.replies.items answers.fault (Lasting o.now is.opens.points turns.turns turns.cut)) (sym same)
         (left-told g e f s before o one k Readable on keeps one_record (found_is (g.size o.scheme.value) small s) start (seen keeps) is.found first is.end answers.replies.items answers.fault is.opens image turns))))
 
-    pub opened-left : ((index : ℕ) → g.own o.scheme.value ≡ Some index → k.keeps → LeavesOnly (k.calls on) (k.calls (disk_of node)) (MayBeLeftOpen g e k f (setup_by g e index o) Readable on o.now))
-        → AtOwn g e k formats node (λ f s h. k.keeps → LeavesAtMost (k.calls (disk_of node)) (k.calls new) (IsPassed g f s h o.events.items))
+    pub opened-left : (mid : K) → disks_of node ≡ One mid
+        → ((index : ℕ) → g.own o.scheme.value ≡ Some index → k.keeps → Leave k (One on) (disks_of node) (MayBeLeftOpen g e k f (setup_by g e index o) Readable (One on) o.now))
+        → AtOwn g e k formats node (λ f s h. (d : K) → disks_of node ≡ One d → k.keeps → (k.calls new ≡ k.calls d) ⊎ LeavesOnly (k.calls d) (k.calls new) (OnImage (IsPassed g f s h o.events.items)))
         → OverLives g e k formats on (o ∷ []) (λ Left. LeavesOnly (k.calls on) (k.calls new) (Left (tried (o ∷ []) [])))
-    opened-left opening ran =
+    opened-left mid over opening ran =
         over-lives (λ Left. LeavesOnly (k.calls on) (k.calls new) (Left (tried (o ∷ []) [])))
         (λ s before own small keeps one start.
-        let is = same-index {P = λ index. IsOpenAndSettled g e k f (setup_by g e index o) Readable on o.now node first} opened own in
+        let is = same-index {P = λ index. IsOpenAndSettled g e k f (setup_by g e index o) Readable (One on) o.now node first} opened own in
         leaves-on (IsLeftByLives g e f s (before ++ tried (o ∷ []) []))
-        (opening s.me own keeps)
+        (subst (λ (d : Disks K). Leave k (One on) d (MayBeLeftOpen g e k f (setup_by g e s.me o) Readable (One on) o.now)) over (opening s.me own keeps))
         (left-open g e f s before o one k Readable on keeps one_record (found_is (g.size o.scheme.value) small s) start (seen keeps) None tt (λ points. tt))
-        (ran (setup_by g e s.me o) is.end is.keeps keeps)
-        (λ image passed. left-turned g e f s before o one k Readable on keeps one_record (found_is (g.size o.scheme.value) small s) start (seen keeps) None is.found first is.end passed.replies
+        (ran (setup_by g e s.me o) is.end is.keeps mid over keeps)
+        (λ image passed. left-turned g e f s before o one k Readable on keeps one_record (found_is (g.size o.scheme.value) small s) start (seen keeps) None is.found first is.end passed.2.replies
         (Some node_fault.Memory) is.are_found is.opens image (turns-passed g f (setup_by g e s.me o) is.end o.events.items image passed) tt))
 
   -- ---- it failed
 
   module _ (why : OpenFault)
-      (opening : (index : ℕ) → g.own o.scheme.value ≡ Some index → k.keeps → LeavesOnly (k.calls on) (k.calls new) (MayBeLeftOpen g e k f (setup_by g e index o) Readable on o.now)) where
+      (opening : (index : ℕ) → g.own o.scheme.value ≡ Some index → k.keeps → Leave k (One on) (One new) (MayBeLeftOpen g e k f (setup_by g e index o) Readable (One on) o.now)) where
     pub failed-left : OverLives g e k formats on (o ∷ []) (λ Left. LeavesOnly (k.calls on) (k.calls new) (Left (tried (o ∷ []) [])))
     failed-left =
         over-lives (λ Left. LeavesOnly (k.calls on) (k.calls new) (Left (tried (o ∷ []) [])))
@@ -105,16 +114,16 @@ module _ {S L D P G C K : Type 0} (g : Ghosts S D P G C) (e : elector.Ghosts L S
         (left-open g e f s before o one k Readable on keeps one_record (found_is (g.size o.scheme.value) small s) start (seen keeps) None tt (λ points. tt)))
 
     pub failed-told : ((n : ℕ) → n ≤ 65535 → (s : Setup S D C) → NeverForeign g (formats n) s Readable) → ((n : ℕ) (s : Setup S D C) → NeverContradicts g (formats n) s)
-        → IfSome (early why) (λ x. IsFirst (open_tests g (setup_by g e 0 o) o.config o.now) (Some x) × (new ≡ on)) → (early why ≡ None → IsFirst (open_tests g (setup_by g e 0 o) o.config o.now) None)
+        → IfSome (early why) (λ x. IsFirst (open_tests g (setup_by g e 0 o) o.config o.now) (Some x) × (One new ≡ One on)) → (early why ≡ None → IsFirst (open_tests g (setup_by g e 0 o) o.config o.now) None)
         → ((place : ℕ) → why ≡ open_fault.Foreign place → k.keeps → IsForeign [] Readable f.artifact (k.seen on) place)
         → ((position index : ℕ) → g.own o.scheme.value ≡ Some index → why ≡ open_fault.Contradiction position
-        → IsContradiction k f.artifact Readable (g.attests o.scheme.value) (g.certifies o.scheme.value) (owner_of (setup_by g e index o)) on position)
+        → IsContradiction k f.artifact Readable (g.attests o.scheme.value) (g.certifies o.scheme.value) (owner_of (setup_by g e index o)) (One on) position)
         → OverLives g e k formats on (o ∷ []) (λ Left. MayLeaveOnly (k.calls new) (Left (tried (o ∷ []) (NotOpened why ∷ []))))
     failed-told never lawful told later foreign contradiction =
         over-lives (λ Left. MayLeaveOnly (k.calls new) (Left (tried (o ∷ []) (NotOpened why ∷ []))))
         (λ s before own small keeps one start image left.
         let so : FailsFor g e f s.me o why = fails g e f s before o one k Readable on keeps one_record (found_is (g.size o.scheme.value) small s) start (seen keeps)
-        (never (g.size o.scheme.value) small s) (lawful (g.size o.scheme.value) s) (new ≡ on) why told later foreign (λ position. contradiction position s.me own) in
+        (never (g.size o.scheme.value) small s) (lawful (g.size o.scheme.value) s) (One new ≡ One on) why told later foreign (λ position. contradiction position s.me own) in
         by-early s before own small keeps one start image left so (early why) refl)
       where
         by-early : (s : Setup S D C) (before : List (Try S L D P G C)) → g.own o.scheme.value ≡ Some s.me → g.size o.scheme.value ≤ 65535 → k.keeps → IsMember s o
@@ -124,7 +133,8 @@ module _ {S L D P G C K : Type 0} (g : Ghosts S D P G C) (e : elector.Ghosts L S
             left-open g e f s before o one k Readable on keeps one_record (found_is (g.size o.scheme.value) small s) start (seen keeps) (Some (NotOpened why)) so (λ points. (so, is, points, refl))
             image (at_last (opening s.me own keeps) image left)
         by-early s before own small keeps one start image left so (Some x) is =
-            let same : new ≡ on = (subst (λ (y : Option OpenFault). IfSome y (λ x. IsFirst (open_tests g (setup_by g e 0 o) o.config o.now) (Some x) × (new ≡ on))) is told).1 in
+            let both : One new ≡ One on = (subst (λ (y : Option OpenFault). IfSome y (λ x. IsFirst (open_tests g (setup_by g e 0 o) o.config o.now) (Some x) × (One new ≡ One on))) is told).1 in
+            let same : new ≡ on = cc both in
             left-none g e f s before o (Some (NotOpened why)) so image (start image (subst (λ (d : K). MayLeave (k.calls d) image) same left))
 
 -- ---- one opening after another
@@ -209,14 +219,48 @@ module _ {S L D P G C K : Type 0} (g : Ghosts S D P G C) (e : elector.Ghosts L S
 -- ---- the steps behind an opening
 
 module _ {S L D P G C K : Type 0} (g : Ghosts S D P G C) (e : elector.Ghosts L S D P G C) (k : disk.Ghosts K) (f : Formats S D P G C) (s : Setup S D C) (node : Node S L D K P G C) (new : K)
-    (closed : (h : History S D P G C) → NodeKeeps g e k f s node h → k.keeps → (image : List ℕ) → MayLeave (k.calls new) image → ReadsAs g f s image h) (keeps : k.keeps) where
+    (closed : (h : History S D P G C) → NodeKeeps g e k f s node h → k.keeps → (read : List (List ℕ)) → MayBeRead k (One new) read → ReadsAs g f s read h) (keeps : k.keeps) where
+  -- an image that is left reads as the record
+  reads-closed : (h : History S D P G C) → NodeKeeps g e k f s node h → (image : List ℕ) → MayLeave (k.calls new) image → Reads image (map f.artifact (record_of h))
+  reads-closed h stands image left = let any = reads_any image in subst (λ (bodies : List (List ℕ)). Reads image bodies) (closed h stands keeps any.0 (image, left, any.1)) any.1
+
   -- by what a run answered
-  pub ran-turns : (h : History S D P G C) (events : List (Event D)) (replies : List (Reply S D P G C)) (fault : Option NodeFault) → new ≡ disk_of node
+  pub ran-turns : (h : History S D P G C) (events : List (Event D)) (replies : List (Reply S D P G C)) (fault : Option NodeFault) → disks_of node ≡ One new
       → EndsList (RunsTo g e k f s h node) (RunFails g e k f s h node) events replies fault → MayLeaveOnly (k.calls new) (IsLeftByTurns g f s h events replies fault)
-  ran-turns h events replies None is runs image left = turns-whole g f s h events replies runs.end None image runs.run (closed runs.end runs.keeps keeps image left)
+  ran-turns h events replies None is runs image left = turns-whole g f s h events replies runs.end None image runs.run (reads-closed runs.end runs.keeps image left)
   ran-turns h events replies (Some why) is (answered, event, behind, split, fails) image left =
       turns-cut g f s h events answered behind event replies fails.runs.end why image split fails.runs.run
-      (at_last (fails.any_moment keeps) image (subst (λ (d : K). MayLeave (k.calls d) image) is left))
+      (let any = reads_any image in (
+        any.0,
+        any.1,
+        left_last k (IsReached g f s fails.runs.end event) (disks_of fails.before) (disks_of node) any.0
+            (book_leaves k (IsReached g f s fails.runs.end event) f.artifact (record_of fails.runs.end) (book_of fails.before) (book_of node) (fails.runs.keeps.core.ledger.journal keeps) (fails.any_moment keeps))
+            (subst (λ (d : Disks K). MayBeRead k d any.0) (sym is) (image, left, any.1)),
+      ))
+
+-- ---- one disk
+
+-- where they are not two, they are one
+pub one_of : {K : Type 0} (on : Disks K) → are_two on ≡ false → (d : K) × (on ≡ One d)
+one_of (One d) is = (d, refl)
+one_of (Two first second) is = absurd (cc is)
+
+-- what a journal leaves of the one disk that it stands on
+pub on-disk : {M K : Type 0} (k : disk.Ghosts K) (P : List (List ℕ) → Type 0) (spelling : M → List ℕ) (messages : List M) (old new : Books M K) (d now : K) → words.disks_of old ≡ One d → words.disks_of new ≡ One now
+    → IsBook k spelling old messages → LeavesAtMost k old new P → (k.calls now ≡ k.calls d) ⊎ LeavesOnly (k.calls d) (k.calls now) (OnImage P)
+on-disk k P spelling messages old new d now over over-now is (inl same) =
+    let both : One now ≡ One d = sym over-now ∙ ap (λ (b : Books _ _). words.disks_of b) same ∙ over in
+    let here : now ≡ d = cc both in
+    inl (ap k.calls here)
+on-disk {K = K} k P spelling messages old new d now over over-now is (inr leaves) =
+    inr (subst (λ (x : Disks K). Leave k (One d) x P) over-now (subst (λ (x : Disks K). Leave k x (words.disks_of new) P) over (book_leaves k P spelling messages old new is leaves)))
+
+-- and how often that has failed
+pub failed-on : {K : Type 0} (k : disk.Ghosts K) (old new : Disks K) (d now : K) → old ≡ One d → new ≡ One now → HasFailed k old new → k.failed now ≡ counted false (k.failed d)
+failed-on {K} k old new d now over over-now told = subst (λ (x : Disks K). HasFailed k (One d) x) over-now (subst (λ (x : Disks K). HasFailed k x new) over told)
+
+pub not-failed-on : {K : Type 0} (k : disk.Ghosts K) (old new : Disks K) (d now : K) → old ≡ One d → new ≡ One now → HasNotFailed k old new → k.failed now ≡ k.failed d
+not-failed-on {K} k old new d now over over-now told = subst (λ (x : Disks K). HasNotFailed k (One d) x) over-now (subst (λ (x : Disks K). HasNotFailed k x new) over told)
 
 -- ---- how often the disk has failed
 

@@ -16,9 +16,10 @@ use Rattle.simplex_member.specs.declared.fault.OpenFault.TheVariants as open_fau
 use Rattle.simplex_member.specs.Deeds.{AreActions}
 use Rattle.simplex_member.specs.First.{IsFirst}
 use Rattle.simplex_member.specs.Lives.{Broken, Course, IsCut, Lasting, Life, Lives, Refuses, Turn, Turns, Went, events_of, turn_events}
-use Rattle.simplex_member.specs.Member.{AreActionsOf, ReadsAs, after}
+use Rattle.simplex_member.specs.Member.{AreActionsOf, after}
 use Rattle.simplex_member.specs.Packet.{Formats}
 use Rattle.simplex_member.specs.Point.{History, Point}
+use Rattle.simplex_member.specs.Recorded.{record_of}
 use Rattle.simplex_member.specs.Refusals.{refused_deeds}
 use Rattle.simplex_member.specs.Setup.{IsOfOneMember, Setup, setup_of}
 use Rattle.node_steps.specs.Opening.{early, open_tests}
@@ -52,6 +53,10 @@ tells_none (Opened first answers) = spares_disk answers.fault
 abbrev pub failures_behind : {S D P G C : Type 0} → ℕ → List (Answered S D P G C) → ℕ
 failures_behind failures [] = failures
 failures_behind failures (a ∷ answers) = failures_behind (counted (tells_none a) failures) answers
+
+-- an image reads as something that has P
+abbrev pub OnImage : (List (List ℕ) → Type 0) → List ℕ → Type 0
+OnImage P image = (read : List (List ℕ)) × Reads image read × P read
 
 -- whatever a crash after these calls leaves has P
 abbrev pub MayLeaveOnly : List Call → (List ℕ → Type 0) → Type 0
@@ -93,7 +98,7 @@ module _ {S D P G C : Type 0} (g : Ghosts S D P G C) (f : Formats S D P G C) (s 
     pub left : List (Event D)
     pub split : events ≡ (turn_events turns ++ option_to_list (option_map (λ c. c.0) cut)) ++ left
     pub whole : fault ≡ None → (cut ≡ None) × (left ≡ [])
-    pub reads : ReadsAs g f s image end
+    pub reads : Reads image (map f.artifact (record_of end))
 
 module _ {S L D P G C : Type 0} (g : Ghosts S D P G C) (e : elector.Ghosts L S D P G C) where
   -- how an opening sets the member of this index up

@@ -4,7 +4,9 @@ use Rattle.std.specs.Io.KnownBytes.{Appends}
 use Rattle.types_core.specs.declared.scheme.Scheme.{Ghosts}
 use Rattle.types_terms.specs.declared.elector.Elector as elector
 use Rattle.journal_single.specs.declared.disk.Disk as disk
-use Rattle.journal_single.specs.Disk.{Call, LeavesOnly, counted}
+use Rattle.messages_certificates.specs.declared.artifact.Artifact.{Artifact}
+use Rattle.journal_books.specs.declared.books.Books.{Books}
+use Rattle.journal_books.specs.Books.{HasFailed, HasNotFailed, LeaveBook}
 use Rattle.simplex_member.specs.declared.action.Reply.{Reply}
 use Rattle.simplex_member.specs.declared.event.Event.{Event}
 use Rattle.simplex_member.specs.declared.fault.IoFault.{IoFault}
@@ -16,13 +18,13 @@ use Rattle.simplex_member.specs.Packet.{Formats}
 use Rattle.simplex_member.specs.Point.{History}
 use Rattle.simplex_member.specs.Setup.{Setup}
 use Rattle.node_steps.specs.declared.node.Node.{Node}
-use Rattle.node_steps.specs.Keeps.{NodeKeeps, disk_of, has_failed}
+use Rattle.node_steps.specs.Keeps.{NodeKeeps, book_of, disks_of, has_failed}
 use Rattle.types_codec.specs.Front.{AppendsFront}
 use Rattle.node_wire.specs.Streaming.{StandInFront}
 
--- a disk was asked for nothing since, or a crash at any moment since leaves what has P
-abbrev pub LeavesAtMost : List Call → List Call → (List ℕ → Type 0) → Type 0
-LeavesAtMost old new P = (new ≡ old) ⊎ LeavesOnly old new P
+-- a journal took nothing since, or a crash at any moment since leaves what has P
+abbrev pub LeavesAtMost : {M K : Type 0} → disk.Ghosts K → Books M K → Books M K → (List (List ℕ) → Type 0) → Type 0
+LeavesAtMost k old new P = (new ≡ old) ⊎ LeaveBook k old new P
 
 -- a reply was written whole, or, where memory ran out or a write failed, a front of it
 pub record IsWritten {S D P G C A : Type 0} (w : Reply S D P G C → List ℕ) (reply : Reply S D P G C) (ended : Result A IoFault) (old new : Option (List ℕ)) : Type 0 where
@@ -31,8 +33,8 @@ pub record IsWritten {S D P G C A : Type 0} (w : Reply S D P G C → List ℕ) (
   pub faults : IfErr ended (λ why. (why ≡ fault.Memory) ⊎ (why ≡ fault.Write))
 
 module _ {S D P G C : Type 0} (g : Ghosts S D P G C) (f : Formats S D P G C) (s : Setup S D C) where
-  -- an image reads as what a run over these events may leave: what the step over one of them may leave, behind the steps over those before it
-  pub record IsPassed (h : History S D P G C) (events : List (Event D)) (image : List ℕ) : Type 0 where
+  -- what is read is what a run over these events may leave: what the step over one of them may leave, behind the steps over those before it
+  pub record IsPassed (h : History S D P G C) (events : List (Event D)) (read : List (List ℕ)) : Type 0 where
     pub before : List (Event D)
     pub event : Event D
     pub behind : List (Event D)
@@ -40,13 +42,13 @@ module _ {S D P G C : Type 0} (g : Ghosts S D P G C) (f : Formats S D P G C) (s 
     pub replies : List (Reply S D P G C)
     pub mid : History S D P G C
     pub run : Run g f s h before replies mid
-    pub reached : IsReached g f s mid event image
+    pub reached : IsReached g f s mid event read
 
   -- a crash at any moment leaves what the step over one of some events may leave that stand at the input's front, as payloads are spelled
-  pub record LeavesPassed (F : D → Type 0) (p : D → List ℕ) (h : History S D P G C) (given : Option (List ℕ)) (old new : List Call) : Type 0 where
+  pub record LeavesPassed {K : Type 0} (k : disk.Ghosts K) (F : D → Type 0) (p : D → List ℕ) (h : History S D P G C) (given : Option (List ℕ)) (old new : Books (Artifact S D P G C) K) : Type 0 where
     pub events : List (Event D)
     pub read : IfSome given (StandInFront F p events)
-    pub leaves : LeavesAtMost old new (IsPassed h events)
+    pub leaves : LeavesAtMost k old new (IsPassed h events)
 
 module _ {S L D P G C K : Type 0} (g : Ghosts S D P G C) (e : elector.Ghosts L S D P G C) (k : disk.Ghosts K) (f : Formats S D P G C) (s : Setup S D C) where
   -- a run over these events comes to these replies, and the node stands where it led
@@ -62,6 +64,6 @@ module _ {S L D P G C K : Type 0} (g : Ghosts S D P G C) (e : elector.Ghosts L S
     pub runs : RunsTo h before events replies
     pub first : why ≢ Failed
     pub failed : has_failed node ≡ true
-    pub device : why ≡ Device → k.failed (disk_of node) ≡ counted false (k.failed (disk_of before))
-    pub no_device : why ≢ Device → k.failed (disk_of node) ≡ k.failed (disk_of before)
-    pub any_moment : k.keeps → LeavesOnly (k.calls (disk_of before)) (k.calls (disk_of node)) (IsReached g f s runs.end event)
+    pub device : why ≡ Device → HasFailed k (disks_of before) (disks_of node)
+    pub no_device : why ≢ Device → HasNotFailed k (disks_of before) (disks_of node)
+    pub any_moment : k.keeps → LeaveBook k (book_of before) (book_of node) (IsReached g f s runs.end event)

@@ -1,10 +1,12 @@
 //! A member's lives: its record is opened again and again, on one disk.
 
-ghost use Rattle.std.specs.Prelude.{◌≡◌, All, IfErr, IfOk, [], ◌∷◌, length};
+ghost use Rattle.std.specs.Prelude.{◌≡◌, ◌⊎◌, false, All, IfErr, IfOk, [], ◌∷◌, length};
 ghost use Rattle.journal_single.specs.Disk.{LeavesOnly, counted};
-ghost use Rattle.node_steps.specs.Keeps.{AtOwn, disk_of};
-ghost use Rattle.simplex_node.specs.Living.{IsLeftByTurns, MayLeaveOnly, OverLives, failures_behind, spares_disk, tells_none, tried};
-ghost use Rattle.simplex_node.specs.Running.{IsPassed, LeavesAtMost};
+ghost use Rattle.journal_books.specs.declared.disks.Disks.TheVariants.{One};
+ghost use Rattle.journal_books.specs.Books.{are_two};
+ghost use Rattle.node_steps.specs.Keeps.{AtOwn, disks_of};
+ghost use Rattle.simplex_node.specs.Living.{IsLeftByTurns, MayLeaveOnly, OnImage, OverLives, failures_behind, spares_disk, tells_none, tried};
+ghost use Rattle.simplex_node.specs.Running.{IsPassed};
 
 use crate::running::run;
 use journal_single::{Disk, a_disk_reads_as_one_record};
@@ -125,11 +127,15 @@ fn live_on<S: Scheme<D> + Drop, L: Elector<S, D>, D: Digest, K: Disk>(
     node: Node<S, L, D, K>,
     events: Vec<Event<D>>,
 ) -> (Answers<S, D>, K)
+    requires { are_two (disks_of node) ≡ false }
     ensures turns { AtOwn S.Scheme L.Elector K.Disk ⟦<S as Speaks<D>>⟧.formats node
         (λ f s h. K.keeps → MayLeaveOnly (K.calls result.1) (IsLeftByTurns S.Scheme f s h events.items result.0.replies.items result.0.fault)) }
-    ensures any_moment { AtOwn S.Scheme L.Elector K.Disk ⟦<S as Speaks<D>>⟧.formats node
-        (λ f s h. K.keeps → LeavesAtMost (K.calls (disk_of node)) (K.calls result.1) (IsPassed S.Scheme f s h events.items)) }
-    ensures failures { K.failed result.1 ≡ counted (spares_disk result.0.fault) (K.failed (disk_of node)) }
+    ensures any_moment { AtOwn S.Scheme L.Elector K.Disk ⟦<S as Speaks<D>>⟧.formats node (λ f s h.
+        (d : K)
+        → disks_of node ≡ One d
+        → K.keeps
+        → (K.calls result.1 ≡ K.calls d) ⊎ LeavesOnly (K.calls d) (K.calls result.1) (OnImage (IsPassed S.Scheme f s h events.items))) }
+    ensures failures { (d : K) → disks_of node ≡ One d → K.failed result.1 ≡ counted (spares_disk result.0.fault) (K.failed d) }
 {
     let mut node = node;
     match run(alloc, &mut node, events) {

@@ -1,12 +1,14 @@
 //! Opening a node's record over a stream.
 
-ghost use Rattle.std.specs.Prelude.{◌≡◌, ◌≢◌, false, Err, IfOk, None, OnErr, OnOk, Some, ℕ};
+ghost use Rattle.std.specs.Prelude.{◌≡◌, ◌≢◌, false, Err, IfErr, IfOk, None, OnErr, OnOk, Some, ℕ};
 ghost use Rattle.journal_single.specs.Disk.{counted};
+ghost use Rattle.journal_books.specs.declared.disks.Disks.TheVariants.{One};
+ghost use Rattle.journal_books.specs.Books.{are_two};
 ghost use Rattle.simplex_member.specs.declared.action.Reply.{Reply};
 ghost use Rattle.simplex_member.specs.declared.fault.IoFault.TheVariants as fault;
 ghost use Rattle.simplex_member.specs.Setup.{setup_of};
-ghost use Rattle.node_steps.specs.Keeps.{disk_of};
-ghost use Rattle.node_steps.specs.Opening.{IsOpenAndSettled, IsOpening};
+ghost use Rattle.node_steps.specs.Keeps.{disks_of};
+ghost use Rattle.node_steps.specs.Opening.{HasOpened, IsOpenAndSettled, IsUnopened};
 ghost use Rattle.simplex_node.specs.Running.{IsWritten};
 ghost use Rattle.node_wire.specs.Streaming.{spelled};
 
@@ -43,7 +45,7 @@ pub fn open_io<S: Scheme<D> + Drop, L: Elector<S, D>, D: Digest, K: Disk, W: Sin
         (index : ℕ) × (first : Reply S D S.PublicKey S.Signature S.Certificate) × (S.own scheme.value ≡ Some index) × (first.refused ≡ None)
         × IsWritten (spelled S.PublicKey.spelling D.spelling S.Signature.spelling S.Certificate.spelling) first r.1 (W.contents writer.old)
         (W.contents writer.new) × IsOpenAndSettled S.Scheme L.Elector K.Disk (⟦<S as Speaks<D>>⟧.formats (S.size scheme.value))
-        (setup_of S.Scheme L.Elector config scheme.value elector index) ⟦<S as Speaks<D>>⟧.readable disk now r.0 first.actions.items) }
+        (setup_of S.Scheme L.Elector config scheme.value elector index) ⟦<S as Speaks<D>>⟧.readable (One disk) now r.0 first.actions.items) }
     ensures no_memory { IfOk result (λ r. r.1 ≡ Err fault.Memory → writer.new ≡ writer.old) }
     ensures unwritten { OnErr result (writer.new ≡ writer.old) }
 
@@ -53,9 +55,15 @@ pub fn open_io<S: Scheme<D> + Drop, L: Elector<S, D>, D: Digest, K: Disk, W: Sin
     ensures flushed { IfOk result (λ r. OnOk r.1 (W.is_flushed writer.new)) }
 
     // Of its faults, and of a crash meanwhile, all that [`Node::open`] promises.
-    ensures opening { IsOpening S.Scheme L.Elector K.Disk (⟦<S as Speaks<D>>⟧.formats (S.size scheme.value))
-        (setup_of S.Scheme L.Elector config scheme.value elector) ⟦<S as Speaks<D>>⟧.readable config scheme.value disk now
-        (λ r. disk_of r.0) result }
+    ensures has_opened { IfOk result (λ r.
+        HasOpened S.Scheme L.Elector K.Disk (⟦<S as Speaks<D>>⟧.formats (S.size scheme.value))
+        (setup_of S.Scheme L.Elector config scheme.value elector) ⟦<S as Speaks<D>>⟧.readable config scheme.value (One disk) now
+        (disks_of r.0)) }
+    ensures unopened { IfErr result (λ r.
+        IsUnopened S.Scheme L.Elector K.Disk (⟦<S as Speaks<D>>⟧.formats (S.size scheme.value))
+        (setup_of S.Scheme L.Elector config scheme.value elector) ⟦<S as Speaks<D>>⟧.readable config scheme.value (One disk) now
+        r.0 (One r.1)) }
+    ensures over_one { IfOk result (λ r. are_two (disks_of r.0) ≡ false) }
 {
     match Node::open(alloc, config, scheme, elector, disk, now) {
         Ok((node, actions)) => {

@@ -1,9 +1,9 @@
 //! A node over a list of events.
 
 ghost use Rattle.std.specs.Prelude.{◌≡◌, ◌≢◌, [], false, true, Some, IfOk, IsSome, OnErr};
-ghost use Rattle.journal_single.specs.Disk.{counted};
+ghost use Rattle.journal_books.specs.Books.{HasFailed, HasNotFailed, are_two};
 ghost use Rattle.simplex_member.specs.declared.fault.NodeFault.TheVariants.{Device, Failed};
-ghost use Rattle.node_steps.specs.Keeps.{AtOwn, disk_of, has_failed};
+ghost use Rattle.node_steps.specs.Keeps.{AtOwn, book_of, disks_of, has_failed};
 ghost use Rattle.simplex_node.specs.Running.{IsPassed, LeavesAtMost, RunFails, RunsTo};
 ghost use Rattle.node_wire.specs.Stepper.{EndsList};
 
@@ -36,13 +36,14 @@ pub fn run<S: Scheme<D> + Drop, L: Elector<S, D>, D: Digest, K: Disk>(
         → (node.new ≡ node.old) × IfOk result (λ r. (r.replies.items ≡ []) × (events.items ≢ [] → r.fault ≡ Some Failed)) }
     ensures no_room { OnErr result (node.new ≡ node.old) }
 
-    // The disk has failed once more exactly where that is told.
-    ensures device { IfOk result (λ r. r.fault ≡ Some Device → K.failed (disk_of node.new) ≡ counted false (K.failed (disk_of node.old))) }
-    ensures no_device { IfOk result (λ r. r.fault ≢ Some Device → K.failed (disk_of node.new) ≡ K.failed (disk_of node.old)) }
+    // A disk has failed once more exactly where that is told.
+    ensures device { IfOk result (λ r. r.fault ≡ Some Device → HasFailed K.Disk (disks_of node.old) (disks_of node.new)) }
+    ensures no_device { IfOk result (λ r. r.fault ≢ Some Device → HasNotFailed K.Disk (disks_of node.old) (disks_of node.new)) }
+    ensures as_many { are_two (disks_of node.new) ≡ are_two (disks_of node.old) }
 
     // A crash at any moment of the call leaves the record at a point of the step over one of the events.
     ensures any_moment { AtOwn S.Scheme L.Elector K.Disk ⟦<S as Speaks<D>>⟧.formats node.old
-        (λ f s h. K.keeps → LeavesAtMost (K.calls (disk_of node.old)) (K.calls (disk_of node.new)) (IsPassed S.Scheme f s h events.items)) }
+        (λ f s h. K.keeps → LeavesAtMost K.Disk (book_of node.old) (book_of node.new) (IsPassed S.Scheme f s h events.items)) }
 {
     answer_list::<NodeSteps, S, D, Node<S, L, D, K>>(alloc, node, events)
 }

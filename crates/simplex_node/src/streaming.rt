@@ -2,10 +2,11 @@
 
 ghost use Rattle.std.specs.Prelude.{◌≡◌, ◌≢◌, false, true, Err};
 ghost use Rattle.journal_single.specs.Disk.{counted};
+ghost use Rattle.journal_books.specs.Books.{HasFailed, HasNotFailed, are_two};
 ghost use Rattle.simplex_member.specs.declared.fault.IoFault.TheVariants as fault;
 ghost use Rattle.simplex_member.specs.declared.fault.NodeFault.{NodeFault};
 ghost use Rattle.simplex_member.specs.declared.fault.NodeFault.TheVariants.{Device};
-ghost use Rattle.node_steps.specs.Keeps.{AtOwn, disk_of, has_failed};
+ghost use Rattle.node_steps.specs.Keeps.{AtOwn, book_of, disks_of, has_failed};
 ghost use Rattle.simplex_node.specs.Running.{LeavesPassed, RunFails, RunsTo};
 ghost use Rattle.node_wire.specs.Streaming.{EndsIn, spelled};
 
@@ -47,14 +48,15 @@ pub fn run_io<S: Scheme<D> + Drop, L: Elector<S, D>, D: Digest, K: Disk, R: Sour
     ensures write { result ≢ Err fault.Write → W.failed writer.new ≡ W.failed writer.old }
     ensures flushed { result ≢ Err fault.Write → W.is_flushed writer.old → W.is_flushed writer.new }
 
-    // The disk has failed once more exactly where that is told.
-    ensures device { result ≡ Err (fault.Node Device) → K.failed (disk_of node.new) ≡ counted false (K.failed (disk_of node.old)) }
-    ensures no_device { result ≢ Err (fault.Node Device) → K.failed (disk_of node.new) ≡ K.failed (disk_of node.old) }
+    // A disk has failed once more exactly where that is told.
+    ensures device { result ≡ Err (fault.Node Device) → HasFailed K.Disk (disks_of node.old) (disks_of node.new) }
+    ensures no_device { result ≢ Err (fault.Node Device) → HasNotFailed K.Disk (disks_of node.old) (disks_of node.new) }
+    ensures as_many { are_two (disks_of node.new) ≡ are_two (disks_of node.old) }
 
     // A crash at any moment of the call leaves the record at a point of the step over one of the events that were read.
     ensures any_moment { AtOwn S.Scheme L.Elector K.Disk ⟦<S as Speaks<D>>⟧.formats node.old (λ f s h.
         K.keeps
-        → LeavesPassed S.Scheme f s D.fits D.spelling h (R.remaining reader.old) (K.calls (disk_of node.old)) (K.calls (disk_of node.new))) }
+        → LeavesPassed S.Scheme f s K.Disk D.fits D.spelling h (R.remaining reader.old) (book_of node.old) (book_of node.new)) }
 {
     answer_stream::<NodeSteps, S, D, Node<S, L, D, K>, R, W>(alloc, node, reader, writer)
 }

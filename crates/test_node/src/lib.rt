@@ -15,8 +15,9 @@
 //!   one call; of each opening its first actions as a reply and the replies, one behind the other, and behind them `fault NUMBER`
 //!   where a step failed, or what `open` answers where it failed. It leaves no node open
 //! - of the node that is open `current_view`, `last_finalized`, `is_failed`
-//! - `bytes`: closes the node that is open, and tells what the disk holds; `disk BYTES`: closes it, and puts a disk that
-//!   holds these in the place of its own; while no node is open `fuse CALLS` and `fail_at CALLS`: calls of the disk fail
+//! - `bytes`: closes the node that is open, and tells what the disk holds, or each of both; `disk BYTES`: closes it, and puts a
+//!   disk that holds these in the place of its own; `disk BYTES BYTES`: two, which `open` opens both; while no node is open
+//!   `fuse CALLS` and `fail_at CALLS`: calls of the disk fail, of two those of the first
 //!
 //! Where memory runs out in the node, that is a fault like any other, and the script goes on; where it runs out for the words of
 //! a call or of an answer, the script ends.

@@ -24,11 +24,12 @@ pub trait Answers: Drop {
     fn answer(&mut self, name: &str, words: &mut Words<'_>, say: &mut Say) -> Result<(), Trouble>;
 }
 
-/// A member with its disk, which the node has while it is open.
+/// A member with its disk, or with two, which the node has while it is open.
 #[derive(Drop)]
 pub struct Member<S, K, N, T> {
     setup: Setup,
     disk: Option<K>,
+    second: Option<K>,
     node: Option<N>,
     scheme: PhantomData<S>,
     seat: PhantomData<T>,
@@ -49,7 +50,9 @@ where
     /// Closes the node that is open.
     fn close(&mut self) {
         if let Some(node) = self.node.take() {
-            self.disk = Some(T::close(node));
+            let (disk, second) = T::close(node);
+            self.disk = disk;
+            self.second = second;
         }
     }
 
@@ -78,11 +81,42 @@ where
         self.open_as(scheme, now, say)
     }
 
-    /// Opens the disk as this member.
+    /// Opens the disk as this member, or both.
     fn open_as(&mut self, scheme: Rc<S>, now: u64, say: &mut Say) -> Result<(), Trouble> {
         let Some(disk) = self.disk.take() else {
             return Err(Trouble::Condition);
         };
+        match self.second.take() {
+            Some(second) => self.open_both(scheme, disk, second, now, say),
+            None => self.open_one(scheme, disk, now, say),
+        }
+    }
+
+    /// Opens both disks.
+    fn open_both(
+        &mut self,
+        scheme: Rc<S>,
+        first: K,
+        second: K,
+        now: u64,
+        say: &mut Say,
+    ) -> Result<(), Trouble> {
+        let config = self.setup.config();
+        match T::open_pair(say.alloc, &self.setup, config, scheme, first, second, now) {
+            Ok((node, actions)) => {
+                self.node = Some(node);
+                say_actions(actions, say)
+            }
+            Err((fault, first, second)) => {
+                self.disk = Some(first);
+                self.second = Some(second);
+                say_open_fault(fault, say)
+            }
+        }
+    }
+
+    /// Opens the one disk.
+    fn open_one(&mut self, scheme: Rc<S>, disk: K, now: u64, say: &mut Say) -> Result<(), Trouble> {
         let config = self.setup.config();
         match T::open(say.alloc, &self.setup, config, scheme, disk, now) {
             Ok((node, actions)) => {
@@ -184,20 +218,36 @@ where
         Ok(())
     }
 
-    /// `disk BYTES`.
+    /// `disk BYTES`, `disk BYTES BYTES`.
     fn put_disk(&mut self, words: &mut Words<'_>, say: &mut Say) -> Result<(), Trouble> {
         let bytes = words.bytes(say.alloc)?;
+        let second = Self::read_second(words, say.alloc)?;
         words.end()?;
         self.close();
         self.disk = Some(K::holding(say.alloc, &bytes)?);
+        self.second = second;
         say.ok()
+    }
+
+    /// The second disk, where its bytes stand behind those of the first.
+    fn read_second(words: &mut Words<'_>, alloc: Global) -> Result<Option<K>, Trouble> {
+        if !words.more() {
+            return Ok(None);
+        }
+        let bytes = words.bytes(alloc)?;
+        Ok(Some(K::holding(alloc, &bytes)?))
     }
 
     /// `bytes`.
     fn bytes(&mut self, words: &Words<'_>, say: &mut Say) -> Result<(), Trouble> {
         words.end()?;
         self.close();
-        say.bytes(self.disk()?.image())
+        say.bytes(self.disk()?.image())?;
+        let Some(second) = &self.second else {
+            return Ok(());
+        };
+        say.gap()?;
+        say.bytes(second.image())
     }
 
     /// `fuse CALLS`, `fail_at CALLS`: of this name.
@@ -252,6 +302,7 @@ where
         Ok(Member {
             setup,
             disk: Some(K::holding(alloc, &[])?),
+            second: None,
             node: None,
             scheme: PhantomData,
             seat: PhantomData,

@@ -47,6 +47,17 @@ pub trait Seat<C: Drop, S: Drop, K, N, E: Drop, A: Drop, R: Drop> {
         now: u64,
     ) -> Result<(N, Vec<A>), (OpenFault, K)>;
 
+    /// The same of two disks.
+    fn open_pair(
+        alloc: Global,
+        setup: &Setup,
+        config: C,
+        scheme: Rc<S>,
+        first: K,
+        second: K,
+        now: u64,
+    ) -> Result<(N, Vec<A>), (OpenFault, K, K)>;
+
     /// What it answers to an event.
     fn step(node: &mut N, event: E) -> Result<R, NodeFault>;
 
@@ -80,6 +91,6 @@ pub trait Seat<C: Drop, S: Drop, K, N, E: Drop, A: Drop, R: Drop> {
     /// Whether a step has failed.
     fn is_failed(node: &N) -> bool;
 
-    /// Gives the disk back.
-    fn close(node: N) -> K;
+    /// Gives the disk back, and the second where it stands on two.
+    fn close(node: N) -> (Option<K>, Option<K>);
 }

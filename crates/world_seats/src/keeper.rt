@@ -66,7 +66,7 @@ impl<S: Committee, L: Turns<S>, K: Medium> Keeper<S, L, K> {
     /// Closes the node.
     fn close(&mut self) {
         if let Some(node) = self.node.take() {
-            self.disk = Some(node.close());
+            self.disk = disk_of(node);
         }
     }
 }
@@ -130,6 +130,15 @@ impl<S: Committee, L: Turns<S>, K: Medium> Seat<S> for Keeper<S, L, K> {
             None => 0,
         }
     }
+}
+
+/// The disk that a node stands on, where that is one.
+fn disk_of<S: Committee, L: Turns<S>, K: Medium>(node: Node<S, L, Sha256Digest, K>) -> Option<K> {
+    if node.is_pair() {
+        drop(node.into_disks());
+        return None;
+    }
+    Some(node.close())
 }
 
 /// What came of a step that failed.

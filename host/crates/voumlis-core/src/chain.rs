@@ -141,7 +141,7 @@ impl ChainHandle {
 pub struct ChainSettings {
     /// How long a leader waits for work before it has an empty block built.
     pub idle: Duration,
-    /// How long a check or build waits for blocks that are on their way.
+    /// How long a check or build waits for blocks that are on their way, of the time that the node is told.
     pub patience: Duration,
     /// The most bytes of a block's contents. The same for all members.
     pub longest_contents: usize,
@@ -622,12 +622,17 @@ impl Chain {
         Ok(true)
     }
 
+    /// How long blocks are waited for: a node that is told the time slower gives their view up later.
+    fn patience(&self) -> Duration {
+        self.settings.patience * self.around.status.get().slowness
+    }
+
     /// Answers whether a proposal is good, or nothing where the blocks that it takes to say don't come.
     fn check(&mut self, pending: &Pending<(u64, wire::Context, Proposal)>) -> Result<bool> {
         let (request, context, proposal) = pending.asked;
         let answer = match self.checked(&context, &proposal)? {
             Some(answer) => answer,
-            None if pending.since.elapsed() < self.settings.patience => return Ok(false),
+            None if pending.since.elapsed() < self.patience() => return Ok(false),
             None => None,
         };
         self.answer(Event::Checked { request, answer });
@@ -680,7 +685,7 @@ impl Chain {
                 }
                 self.application.build(&context_of(context), &ancestors)
             }
-            Walk::Lacks(payload) if waited < self.settings.patience => {
+            Walk::Lacks(payload) if waited < self.patience() => {
                 self.want(payload, None);
                 return Ok(false);
             }

@@ -12,6 +12,7 @@ use crate::inbox::{Inbox, Input};
 use crate::member::{Member, NotYet, Open};
 use crate::metrics::{Metrics, Status};
 use crate::network::{Current, Letter, Network};
+use crate::pace::{Clock, Pace, PaceSettings};
 use crate::recorded;
 use crate::reports::{ReportLog, SignedReport};
 use crate::signatures::SignatureFile;
@@ -43,20 +44,29 @@ const PRUNING: u64 = 64;
 /// How the loop is set up.
 #[derive(Clone, Debug)]
 pub struct EngineSettings {
-    /// The record is opened again where no view was entered for so long: what a node lacks it asks for once in a life.
+    /// The record is opened again where no view was entered for so long, of the time that the node is told: what a node lacks it asks for
+    /// once in a life.
     pub reopen_after: Duration,
+    /// The longest time before an opening, however often one didn't help and however slow the time is told.
+    pub reopen_at_most: Duration,
+    /// How slow the time may be told.
+    pub pace: PaceSettings,
 }
 
 impl Default for EngineSettings {
     fn default() -> EngineSettings {
         EngineSettings {
             reopen_after: Duration::from_secs(30),
+            reopen_at_most: Duration::from_secs(600),
+            pace: PaceSettings::default(),
         }
     }
 }
 
-/// The longest time before an opening, however often it didn't help.
-const LONGEST_REOPEN: Duration = Duration::from_secs(600);
+/// The term of a view, from 0 on.
+fn term_of(view: u64) -> u64 {
+    view.saturating_sub(1) / TERM
+}
 
 /// A member's loop.
 pub struct Engine {
@@ -96,7 +106,10 @@ enum Ended {
 struct Life {
     number: u64,
     node: Box<dyn Member>,
-    start: Instant,
+    clock: Clock,
+    pace: Pace,
+    /// Whether the opening's own actions are carried out: they tell of what was before.
+    has_begun: bool,
     wake: Option<u64>,
     /// The moment that was told last.
     told: u64,
@@ -109,9 +122,9 @@ struct Life {
 }
 
 impl Life {
-    /// Milliseconds since the opening.
+    /// Milliseconds since the opening, as the node is told them.
     fn now(&self) -> u64 {
-        self.start.elapsed().as_millis() as u64
+        self.clock.moment(Instant::now())
     }
 
     /// Whether a packet is a certificate that the node has: all members send it to all. A packet may be lost, so it may be left out.
@@ -129,8 +142,12 @@ impl Life {
 
     /// When the node wants to be told the time, if it does.
     fn rings(&self) -> Option<Instant> {
-        self.wake
-            .map(|moment| self.start + Duration::from_millis(moment))
+        self.wake.map(|moment| self.clock.when(moment))
+    }
+
+    /// How long no view may be entered: in slower time each takes longer.
+    fn patience(&self, patience: Duration, settings: &EngineSettings) -> Duration {
+        (patience * self.pace.slowness()).min(settings.reopen_at_most)
     }
 }
 
@@ -146,9 +163,10 @@ impl Engine {
     /// Where the record isn't opened, the node ends or a file fails. The record has all that was handed out.
     pub fn run(mut self) -> Result<()> {
         let mut patience = self.settings.reopen_after;
+        let mut pace = Pace::new(&self.settings.pace, self.sealer.committee.liars());
         for number in 1.. {
             let entered = self.status.get().view;
-            let Some(mut life) = self.begin(number)? else {
+            let Some(mut life) = self.begin(number, pace)? else {
                 return Ok(());
             };
             match self.live(&mut life, patience)? {
@@ -157,6 +175,7 @@ impl Engine {
                     return life.node.close();
                 }
                 Ended::Stuck => {
+                    let waited = life.patience(patience, &self.settings);
                     // The record has all that it handed out, however it ended.
                     if let Err(told) = life.node.close() {
                         warn!(told = %format!("{told:#}"), "the node didn't end well");
@@ -165,9 +184,16 @@ impl Engine {
                     patience = if helped {
                         self.settings.reopen_after
                     } else {
-                        (patience * 2).min(LONGEST_REOPEN)
+                        (patience * 2).min(self.settings.reopen_at_most)
                     };
-                    info!("no view was entered for long: the record is opened again");
+                    // What a network takes it goes on taking: the pace isn't the node's.
+                    pace = life.pace;
+                    self.metrics.stuck.inc();
+                    info!(
+                        life = number,
+                        ?waited,
+                        "no view was entered for long: the record is opened again"
+                    );
                 }
             }
         }
@@ -193,7 +219,7 @@ impl Engine {
     }
 
     /// A new life, or `None` where this is to stop before there is one.
-    fn begin(&mut self, number: u64) -> Result<Option<Life>> {
+    fn begin(&mut self, number: u64, pace: Pace) -> Result<Option<Life>> {
         let Some((node, first)) = self.open_record()? else {
             return Ok(None);
         };
@@ -206,7 +232,9 @@ impl Engine {
         let mut life = Life {
             number,
             node,
-            start: Instant::now(),
+            clock: Clock::new(Instant::now(), pace.slowness()),
+            pace,
+            has_begun: false,
             wake: None,
             told: 0,
             pruned: 0,
@@ -219,6 +247,7 @@ impl Engine {
         self.signatures.sync()?;
         self.reports.remember()?;
         self.carry_out(&mut life, first)?;
+        life.has_begun = true;
         self.reports.forget();
         for (channel, bytes) in recorded {
             self.send(None, channel, bytes);
@@ -233,7 +262,7 @@ impl Engine {
                 self.step_all(life, early)?;
                 continue;
             }
-            let stuck = self.status.get().entered + patience;
+            let stuck = self.status.get().entered + life.patience(patience, &self.settings);
             let until = life.rings().map_or(stuck, |rings| rings.min(stuck));
             let batch = self.inbox.take(Some(until), BATCH);
             if batch.iter().any(|input| matches!(input, Input::Stop)) {
@@ -394,6 +423,9 @@ impl Engine {
             .change(|state| state.finalized = state.finalized.max(id));
         self.metrics.finalized.set(view as i64);
         self.network.finalized(view);
+        if life.has_begun && life.pace.finalized(term_of(view)) {
+            self.tell_pace(life, "faster", "views are final");
+        }
         if view >= life.pruned + PRUNING {
             life.pruned = view;
             life.recorded.retain(|(_, on)| on.round().view >= view);
@@ -408,6 +440,10 @@ impl Engine {
             life.recorded.insert((certificate.kind, certificate.on));
         }
         self.enter(life, &report);
+        if life.has_begun && self.is_given_up(&report) && life.pace.gave_up(term_of(report.view()))
+        {
+            self.tell_pace(life, "slower", "views were given up again and again");
+        }
         if self.reports.has(&plain, &report) {
             return Ok(());
         }
@@ -431,6 +467,26 @@ impl Engine {
         Ok(())
     }
 
+    /// Whether a report is this member's own vote to give a view up.
+    fn is_given_up(&self, report: &Report) -> bool {
+        match report {
+            Report::Vote(vote) => {
+                vote.kind == VoteKind::Nullify && vote.attestation.signer == self.sealer.me
+            }
+            Report::Certificate(_) | Report::Certified(_) | Report::Evidence(..) => false,
+        }
+    }
+
+    /// From now on the node is told the time at another pace.
+    fn tell_pace(&self, life: &mut Life, direction: &str, why: &str) {
+        let slowness = life.pace.slowness();
+        life.clock.go_on(Instant::now(), slowness);
+        self.metrics.slowness.set(i64::from(slowness));
+        self.metrics.paces.with_label_values(&[direction]).inc();
+        self.status.change(|state| state.slowness = slowness);
+        info!(slowness, why, "the time is told {direction}");
+    }
+
     /// What a report says of the view that the node stands at: a true verdict and a finalization lead to the next one, a nullification
     /// past its term.
     fn enter(&self, life: &mut Life, report: &Report) {
@@ -439,7 +495,7 @@ impl Engine {
             Report::Certified(_) => view.saturating_add(1),
             Report::Certificate(certificate) => match certificate.kind {
                 VoteKind::Finalize => view.saturating_add(1),
-                VoteKind::Nullify => (view.saturating_sub(1) / TERM)
+                VoteKind::Nullify => term_of(view)
                     .saturating_add(1)
                     .saturating_mul(TERM)
                     .saturating_add(1),

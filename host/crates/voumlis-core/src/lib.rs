@@ -10,7 +10,7 @@
 //! | [`committee`] | the members' keys |
 //! | [`envelope`], [`signatures`] | the signatures beside plain packets, and their store |
 //! | [`member`] | the node: a child process, or the library in this process |
-//! | [`inbox`], [`early`], [`recorded`], [`engine`] | the loop |
+//! | [`inbox`], [`early`], [`recorded`], [`pace`], [`engine`] | the loop |
 //! | [`chain`], [`blocks`], [`snapshots`] | the application's side |
 //! | [`frame`], [`network`], [`allowance`] | what goes between hosts |
 //! | [`reports`], [`judge`] | who lied |
@@ -30,6 +30,7 @@ pub mod judge;
 pub mod member;
 pub mod metrics;
 pub mod network;
+pub mod pace;
 pub mod plain;
 pub mod recorded;
 pub mod reports;

@@ -45,6 +45,12 @@ pub struct Metrics {
     pub peers: IntGaugeVec,
     /// Openings of the record in this process.
     pub openings: IntCounter,
+    /// Lives that ended since no view was entered for long.
+    pub stuck: IntCounter,
+    /// So many times slower than the clock the node is told the time.
+    pub slowness: IntGauge,
+    /// How often the time was told slower and faster, by direction.
+    pub paces: IntCounterVec,
     /// Seconds that the node takes for an event.
     pub step_seconds: Histogram,
 }
@@ -89,6 +95,8 @@ impl Metrics {
             registry.register(Box::new(histogram.clone()))?;
             Ok(histogram)
         };
+        let slowness = gauge("slowness", "how many times slower the time is told")?;
+        slowness.set(1);
         Ok(Metrics {
             view: gauge("view", "highest view entered")?,
             finalized: gauge("finalized_view", "last final view")?,
@@ -109,6 +117,9 @@ impl Metrics {
             network_bytes: counters("network_bytes", "bytes over links", "direction")?,
             peers: gauges("peers", "connected peers", "direction")?,
             openings: counter("openings", "openings of the record")?,
+            stuck: counter("stuck", "lives ended since no view was entered for long")?,
+            slowness,
+            paces: counters("paces", "changes of how slow the time is told", "direction")?,
             step_seconds: histogram("step_seconds", "time the node takes for an event")?,
             registry,
         })
@@ -143,6 +154,8 @@ pub struct State {
     pub life: u64,
     /// When a view was entered last.
     pub entered: Instant,
+    /// So many times slower than the clock the node is told the time.
+    pub slowness: u32,
 }
 
 /// The state, for any number of threads.
@@ -158,6 +171,7 @@ impl Default for Status {
             evidence: 0,
             life: 0,
             entered: Instant::now(),
+            slowness: 1,
         }))
     }
 }

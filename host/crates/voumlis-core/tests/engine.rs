@@ -17,6 +17,7 @@ use voumlis_core::inbox::Inbox;
 use voumlis_core::member::{Member, NotYet, Open};
 use voumlis_core::metrics::{Metrics, Status};
 use voumlis_core::network::Current;
+use voumlis_core::pace::PaceSettings;
 use voumlis_core::plain::{BASE, attestation};
 use voumlis_core::reports::{ReportLog, read_all};
 use voumlis_core::signatures::SignatureFile;
@@ -100,7 +101,11 @@ impl Running {
             reports: ReportLog::open(&folder.join("reports"), 1 << 30).unwrap(),
             metrics: metrics.clone(),
             status: Arc::new(Status::default()),
-            settings: EngineSettings { reopen_after },
+            settings: EngineSettings {
+                reopen_after,
+                pace: PACE,
+                ..EngineSettings::default()
+            },
         };
         let thread = thread::spawn(move || engine.run().unwrap());
         Running {
@@ -207,6 +212,13 @@ fn nullification(tag: u8, view: u64) -> Vec<u8> {
 }
 
 const LONG: Duration = Duration::from_secs(100);
+
+/// Slower behind two terms that were given up, as of four members, and faster behind three final views.
+const PACE: PaceSettings = PaceSettings {
+    slowest: 4,
+    slower_after: None,
+    faster_after: 3,
+};
 
 #[test]
 fn signatures_are_on_the_disk_before_what_rests_on_them_leaves() {
@@ -383,6 +395,129 @@ fn moments_do_not_fall_and_come_when_the_node_wants_to_be_woken() {
             .get(),
         1
     );
+    member.stop();
+}
+
+/// What a node reports where its member gives a view up.
+fn given_up(view: u64) -> Action {
+    let mut own = nullify(view, 0).bytes();
+    own[0] = 3;
+    Action::Report(own)
+}
+
+fn proposal(view: u64) -> Proposal {
+    Proposal {
+        round: Round { epoch: 0, view },
+        parent: view - 1,
+        payload: [9; 32],
+    }
+}
+
+#[test]
+fn the_time_is_told_slower_where_views_are_given_up_and_faster_where_they_become_final() {
+    let folder = tempfile::tempdir().unwrap();
+    let network = Remembered::default();
+    // A verdict of view 100 and so many is the word to give a term's first view up; other answers make views final.
+    let member = Running::new(folder.path(), LONG, network, |_, event| match event {
+        Event::Verdict { view, .. } if *view > 100 => reply(vec![given_up(view - 100)]),
+        Event::Verdict { view, .. } => reply(vec![Action::Finalized(proposal(*view))]),
+        _ => reply(Vec::new()),
+    });
+    let slowness = || member.metrics.slowness.get();
+    let mut count = 0;
+    let mut say = |view| {
+        count += 1;
+        member.inbox.answer(1, Event::Verdict { view, good: true });
+        member.told(count);
+        // What came of it is told before the next is taken in: this one is looked at no more.
+        count += 1;
+        member.inbox.answer(
+            1,
+            Event::Built {
+                request: 0,
+                payload: None,
+            },
+        );
+        member.told(count);
+        slowness()
+    };
+    // Twice in a term is once, a row that a final view broke is none, and four times as slow is the most.
+    let told = [101, 102, 5, 109, 113, 117, 121, 125, 129].map(&mut say);
+    assert_eq!(told, [1, 1, 1, 1, 2, 2, 4, 4, 4]);
+    // A second passes, of which a quarter is told.
+    let moment = |events: &Events| {
+        let all = events.lock().unwrap();
+        let mut moments = all.iter().rev().filter_map(|(_, event)| match event {
+            Event::Moment(moment) => Some(*moment),
+            _ => None,
+        });
+        moments.next().unwrap()
+    };
+    let begun = moment(&member.events);
+    let since = std::time::Instant::now();
+    thread::sleep(Duration::from_millis(1000));
+    say(33);
+    let (passed, told) = (
+        since.elapsed().as_millis() as u64,
+        moment(&member.events) - begun,
+    );
+    assert!(
+        (200..=passed / 4 + 100).contains(&told),
+        "{told} of {passed}"
+    );
+    assert_eq!(
+        [34, 35, 36, 37, 38, 39, 40].map(&mut say),
+        [4, 2, 2, 2, 1, 1, 1]
+    );
+    let changes =
+        ["slower", "faster"].map(|it| member.metrics.paces.with_label_values(&[it]).get());
+    assert_eq!(changes, [2, 2]);
+    member.stop();
+}
+
+#[test]
+fn what_an_opening_tells_of_the_record_changes_no_pace_and_a_new_life_keeps_it() {
+    let folder = tempfile::tempdir().unwrap();
+    let network = Remembered::default();
+    let member = Running::new(
+        folder.path(),
+        Duration::from_millis(300),
+        network,
+        |_, event| match event {
+            Event::Verdict { view, .. } => reply(vec![given_up(*view)]),
+            _ => reply(Vec::new()),
+        },
+    );
+    let openings = |count| {
+        until("it is opened again", || {
+            (member.metrics.openings.get() >= count).then_some(())
+        });
+    };
+    // Whatever life it is by then.
+    let give_up = |view| {
+        let verdict = Event::Verdict { view, good: true };
+        until("the node is told", || {
+            let life = member.metrics.openings.get();
+            member.inbox.answer(life, verdict.clone());
+            thread::sleep(Duration::from_millis(10));
+            let events = member.events.lock().unwrap();
+            let is_told = events.iter().any(|(_, event)| *event == verdict);
+            is_told.then_some(())
+        });
+    };
+    // Each opening behind the first tells of a view of the first term that was given up. With that of the second term they would be two.
+    openings(2);
+    give_up(5);
+    openings(3);
+    assert_eq!(member.metrics.slowness.get(), 1);
+    assert!(member.metrics.stuck.get() >= 2);
+    give_up(9);
+    until("the time is told slower", || {
+        (member.metrics.slowness.get() == 2).then_some(())
+    });
+    let there = member.metrics.openings.get();
+    openings(there + 1);
+    assert_eq!(member.metrics.slowness.get(), 2);
     member.stop();
 }
 

@@ -1,7 +1,7 @@
 //! What is said on the command line.
 
 use crate::member::{self, Service};
-use crate::settings::{Limits, Members, Place, Settings, Times};
+use crate::settings::{Limits, Members, Paces, Place, SETTINGS, Settings, Times};
 use anyhow::{Context, Result, bail, ensure};
 use clap::{Parser, Subcommand};
 use std::fs;
@@ -54,6 +54,11 @@ enum Command {
         /// Have applications in other processes: that of member 0 answers at this port of the same address, and so on.
         #[arg(long)]
         applications: Option<u16>,
+    },
+    /// Say whether a member can work with the settings of its folder, and warn of what they don't bear.
+    Check {
+        /// The folder.
+        folder: PathBuf,
     },
     /// Run the member of a folder until SIGTERM or SIGINT.
     Run {
@@ -138,6 +143,7 @@ fn carry_out(
             };
             init(&folder, members, &ports, &program, library)?;
         }
+        Command::Check { folder } => check(&folder)?,
         Command::Run { folder } => member::run(&folder, make)?,
         Command::Status { folder } => println!("{}", status(&folder)?),
         Command::Judge { mut files, program } => {
@@ -230,9 +236,13 @@ fn init(folder: &Path, members: u16, ports: &Ports, program: &Path, library: boo
             application: ports.application(member as u32)?,
             limits: Limits::default(),
             times: Times::default(),
+            pace: Paces::default(),
             members: places.clone(),
         };
         settings.write(&folder.join(format!("member-{member}")))?;
+        // They are the same for all.
+        let warnings = settings.warnings().into_iter().filter(|_| member == 0);
+        warnings.for_each(|told| eprintln!("warning: {told}"));
     }
     let listed = toml::to_string(&Members { members: places })?;
     fs::write(folder.join("committee.toml"), listed)?;
@@ -241,6 +251,25 @@ fn init(folder: &Path, members: u16, ports: &Ports, program: &Path, library: boo
         "    voumlisd run {}/member-0    # and so on",
         folder.display()
     );
+    Ok(())
+}
+
+/// What can be said of settings, and of the key that they name, without a node.
+fn check(folder: &Path) -> Result<()> {
+    let settings = Settings::read(folder)?;
+    let committee = settings.committee()?;
+    let key = SecretKey::read(&settings.key)?;
+    let me = committee.member_of(&key.public());
+    let me = me.with_context(|| format!("{} is no member's key", settings.key.display()))?;
+    println!(
+        "{}: member {me} of {}, of whom {} may fail",
+        folder.join(SETTINGS).display(),
+        committee.size(),
+        committee.liars()
+    );
+    for told in settings.warnings() {
+        println!("warning: {told}");
+    }
     Ok(())
 }
 

@@ -73,6 +73,7 @@ impl Told {
             "finalized": id(state.finalized),
             "applied": id(state.applied),
             "openings": state.life,
+            "slowness": state.slowness,
             "milliseconds_in_view": state.entered.elapsed().as_millis() as u64,
             "sending_to": sending,
             "hearing_from": hearing,

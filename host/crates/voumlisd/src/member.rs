@@ -15,7 +15,7 @@ use std::thread::{self, JoinHandle};
 use std::time::{Duration, Instant};
 use tokio::net::TcpListener;
 use tokio::signal::unix::{SignalKind, signal};
-use tracing::info;
+use tracing::{info, warn};
 use voumlis_core::chain::{Chain, ChainHandle, Request, Surroundings};
 use voumlis_core::committee::SecretKey;
 use voumlis_core::engine::Engine;
@@ -162,6 +162,9 @@ fn end_where_a_part_fails() {
 pub fn run(folder: &Path, make: impl FnOnce(&Settings) -> Result<Service>) -> Result<()> {
     end_where_a_part_fails();
     let settings = Settings::read(folder)?;
+    for told in settings.warnings() {
+        warn!("{told}");
+    }
     let _lock = lock(folder)?;
     let service = make(&settings)?;
     let runtime = tokio::runtime::Builder::new_multi_thread()

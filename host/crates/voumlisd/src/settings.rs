@@ -11,6 +11,7 @@ use voumlis_core::chain::ChainSettings;
 use voumlis_core::committee::{Committee, PublicKey};
 use voumlis_core::engine::EngineSettings;
 use voumlis_core::frame::LONGEST_FRAME;
+use voumlis_core::pace::{LONGEST_ROW, PaceSettings, SLOWEST};
 
 /// The name of a member's settings in its folder.
 pub const SETTINGS: &str = "settings.toml";
@@ -56,6 +57,9 @@ pub struct Settings {
     /// How long is waited.
     #[serde(default)]
     pub times: Times,
+    /// How slow the node may be told the time.
+    #[serde(default)]
+    pub pace: Paces,
     /// The members, of whom the first has index 0.
     pub members: Vec<Place>,
 }
@@ -104,10 +108,12 @@ impl Default for Limits {
 pub struct Times {
     /// How long a leader without work waits before it has an empty block built: below the leader's deadline, a second.
     pub idle: u64,
-    /// How long a check waits for a block that is on its way.
+    /// How long a check waits for a block that is on its way, of the time that the node is told.
     pub patience: u64,
-    /// The record is opened again where no view was entered for so long.
+    /// The record is opened again where no view was entered for so long, of the time that the node is told.
     pub reopen_after: u64,
+    /// The longest time before that, which doubles while it doesn't help.
+    pub reopen_at_most: u64,
     /// How long a connection may take until its key is shown and it has said of which committee it is.
     pub greeting: u64,
     /// A connection of HTTP over which nothing goes for so long is closed: longer than any answer takes.
@@ -117,16 +123,23 @@ pub struct Times {
 impl Default for Times {
     fn default() -> Times {
         let milliseconds = |time: Duration| time.as_millis() as u64;
-        let chain = ChainSettings::default();
+        let (chain, engine) = (ChainSettings::default(), EngineSettings::default());
         Times {
             idle: milliseconds(chain.idle),
             patience: milliseconds(chain.patience),
-            reopen_after: milliseconds(EngineSettings::default().reopen_after),
+            reopen_after: milliseconds(engine.reopen_after),
+            reopen_at_most: milliseconds(engine.reopen_at_most),
             greeting: 5_000,
             http_silence: 90_000,
         }
     }
 }
+
+/// The fewest members of whom one may fail.
+const BEARS_A_FAULT: usize = 4;
+
+/// How long a node waits before it says again that it gives a view up, as the program `simplex` is set up.
+const RETRY: u64 = 5_000;
 
 /// The most of a time: a day.
 const LONGEST: u64 = 24 * 60 * 60 * 1000;
@@ -141,12 +154,59 @@ impl Times {
         for (name, time) in [
             ("patience", self.patience),
             ("reopen_after", self.reopen_after),
+            ("reopen_at_most", self.reopen_at_most),
             ("greeting", self.greeting),
             ("http_silence", self.http_silence),
         ] {
             ensure!(
                 (1..=LONGEST).contains(&time),
                 "times.{name} has to be from 1 to {LONGEST}"
+            );
+        }
+        ensure!(
+            self.reopen_after <= self.reopen_at_most,
+            "times.reopen_at_most has to be times.reopen_after or more"
+        );
+        Ok(())
+    }
+}
+
+/// How slow the node may be told the time: the only back-off that there is.
+#[derive(Clone, Debug, Deserialize, Serialize)]
+#[serde(default, deny_unknown_fields)]
+pub struct Paces {
+    /// So many times slower at most. 1 is never.
+    pub slowest: u32,
+    /// Twice as slow behind so many terms in a row that this member gave up. Where it isn't there: one more than members may fail, and two
+    /// at least.
+    #[serde(skip_serializing_if = "Option::is_none")]
+    pub slower_after: Option<u32>,
+    /// Twice as fast behind so many views that became final since it changed.
+    pub faster_after: u32,
+}
+
+impl Default for Paces {
+    fn default() -> Paces {
+        let pace = PaceSettings::default();
+        Paces {
+            slowest: pace.slowest,
+            slower_after: pace.slower_after,
+            faster_after: pace.faster_after,
+        }
+    }
+}
+
+impl Paces {
+    fn check(&self) -> Result<()> {
+        let counted = self.slower_after.unwrap_or(1);
+        for (name, count, most) in [
+            ("slowest", self.slowest, SLOWEST),
+            ("slower_after", counted, LONGEST_ROW),
+            ("faster_after", self.faster_after, LONGEST_ROW),
+        ] {
+            ensure!(
+                (1..=most).contains(&count),
+                "pace.{name} has to be from 1 to {most}"
             );
         }
         Ok(())
@@ -236,8 +296,32 @@ impl Settings {
         settings.key = folder.join(&settings.key);
         settings.program = folder.join(&settings.program);
         settings.times.check()?;
+        settings.pace.check()?;
         settings.limits.check()?;
         Ok(settings)
+    }
+
+    /// What a member can work with, and its operator should know of.
+    pub fn warnings(&self) -> Vec<String> {
+        let mut told = Vec::new();
+        let count = self.members.len();
+        if count < BEARS_A_FAULT {
+            told.push(format!(
+                "a committee of {count} bears no fault: where one member is down, or lies, nothing becomes final"
+            ));
+        }
+        if count == 1 {
+            told.push(
+                "a committee of one may stand for good behind one bad verdict of its application"
+                    .to_owned(),
+            );
+        }
+        if self.times.reopen_after < RETRY {
+            told.push(format!(
+                "times.reopen_after is below the {RETRY} ms behind which a node says again that it gives a view up"
+            ));
+        }
+        told
     }
 
     /// Writes them to a member's folder.
@@ -273,6 +357,12 @@ impl Settings {
     pub fn engine(&self) -> EngineSettings {
         EngineSettings {
             reopen_after: Duration::from_millis(self.times.reopen_after),
+            reopen_at_most: Duration::from_millis(self.times.reopen_at_most),
+            pace: PaceSettings {
+                slowest: self.pace.slowest,
+                slower_after: self.pace.slower_after,
+                faster_after: self.pace.faster_after,
+            },
         }
     }
 }
@@ -283,11 +373,19 @@ mod tests {
 
     /// What is said of settings that have this behind those that have to be there.
     fn read_with(more: &str) -> Result<Settings, String> {
+        read_of(1, more)
+    }
+
+    /// The same of so many members.
+    fn read_of(members: usize, more: &str) -> Result<Settings, String> {
         let folder = tempfile::tempdir().unwrap();
-        let text = format!(
-            "key = \"key\"\nlisten = \"127.0.0.1:7100\"\nhttp = \"127.0.0.1:7101\"\nprogram = \"simplex\"\n{more}\n\
-             [[members]]\nkey = \"{}\"\naddress = \"127.0.0.1:7100\"\n",
+        let member = format!(
+            "[[members]]\nkey = \"{}\"\naddress = \"127.0.0.1:7100\"\n",
             "0".repeat(64)
+        );
+        let text = format!(
+            "key = \"key\"\nlisten = \"127.0.0.1:7100\"\nhttp = \"127.0.0.1:7101\"\nprogram = \"simplex\"\n{more}\n{}",
+            member.repeat(members)
         );
         fs::write(folder.path().join(SETTINGS), text).unwrap();
         Settings::read(folder.path()).map_err(|told| format!("{told:#}"))
@@ -302,6 +400,15 @@ mod tests {
             ("times", "patience", "0"),
             ("times", "reopen_after", "0"),
             ("times", "reopen_after", "9000000000000000000"),
+            ("times", "reopen_at_most", "29999"),
+            ("times", "reopen_at_most", "9000000000000000000"),
+            ("pace", "slowest", "0"),
+            ("pace", "slowest", "65"),
+            ("pace", "slower_after", "0"),
+            ("pace", "slower_after", "-1"),
+            ("pace", "faster_after", "0"),
+            ("pace", "faster_after", "1048577"),
+            ("pace", "slowness", "1"),
             ("times", "greeting", "0"),
             ("times", "http_silence", "0"),
             ("times", "unknown", "1"),
@@ -319,5 +426,38 @@ mod tests {
             let told = read_with(&format!("[{table}]\n{name} = {value}")).unwrap_err();
             assert!(told.contains(name), "{name} = {value}: {told}");
         }
+    }
+
+    #[test]
+    fn the_loop_is_set_up_as_the_file_says() {
+        let told = "[times]\nreopen_after = 7000\nreopen_at_most = 9000\n[pace]\nslowest = 3\nslower_after = 5\nfaster_after = 6";
+        let engine = read_with(told).unwrap().engine();
+        let times = [engine.reopen_after, engine.reopen_at_most].map(|time| time.as_millis());
+        assert_eq!(times, [7000, 9000]);
+        let pace = engine.pace;
+        assert_eq!(
+            (pace.slowest, pace.slower_after, pace.faster_after),
+            (3, Some(5), 6)
+        );
+        let pace = read_with("").unwrap().engine().pace;
+        assert_eq!(
+            (pace.slowest, pace.slower_after, pace.faster_after),
+            (8, None, 32)
+        );
+    }
+
+    #[test]
+    fn a_committee_that_bears_no_fault_is_warned_of() {
+        let told = |members, more| read_of(members, more).unwrap().warnings().join("\n");
+        for members in 1..4 {
+            let told = told(members, "");
+            assert!(
+                told.contains(&format!("a committee of {members} bears no fault")),
+                "{told}"
+            );
+            assert_eq!(told.contains("bad verdict"), members == 1);
+        }
+        assert_eq!(told(4, ""), "");
+        assert!(told(7, "[times]\nreopen_after = 4999").contains("times.reopen_after"));
     }
 }

@@ -146,9 +146,73 @@ fn a_record_is_opened_again_where_no_view_is_entered_for_long() {
     until("the record is opened again", || {
         (committee.metric(0, "voumlis_openings_total") >= 2.0).then_some(())
     });
+    assert!(committee.metric(0, "voumlis_stuck_total") >= 1.0);
     thread::sleep(Duration::from_millis(500));
     committee.start(2);
     committee.reach(&[0, 1, 2], 4);
+}
+
+#[test]
+fn a_committee_far_apart_gets_on_since_the_time_is_told_slower() {
+    let mut committee = Committee::new(4, |_| {});
+    let binary = Path::new(env!("CARGO_BIN_EXE_voumlisd"));
+    let late = binary.with_file_name("examples").join("late");
+    (0..4).for_each(|member| committee.start_as(&late, member));
+    committee.reach(&[0, 1, 2, 3], 12);
+    let status = committee.status(0).unwrap();
+    assert!(status["slowness"].as_u64() >= Some(2), "{status}");
+    assert!(committee.metric(0, "voumlis_paces_total{direction=\"slower\"}") >= 1.0);
+    assert!(committee.metric(0, "voumlis_slowness") >= 2.0);
+    let log = committee.log(0);
+    assert!(log.contains("the time is told slower"), "{log}");
+    // Nobody was stuck, and nobody is to blame.
+    assert_eq!(committee.metric(0, "voumlis_stuck_total"), 0.0);
+    assert_eq!(status["blocked"].as_object().unwrap().len(), 0);
+}
+
+#[test]
+fn a_committee_of_one_is_warned_of_where_it_is_made_checked_and_run() {
+    let mut committee = Committee::new(1, |_| {});
+    let told = "a committee of 1 bears no fault";
+    let folder = committee.member(0);
+    let checked = committee.run(&["check", folder.to_str().unwrap()]);
+    let said = String::from_utf8(checked.stdout).unwrap();
+    assert!(checked.status.success() && said.contains(told), "{said}");
+    committee.start(0);
+    committee.reach(&[0], 3);
+    assert!(committee.log(0).contains(told), "{}", committee.log(0));
+    let made = tempfile::tempdir().unwrap();
+    let program = common::program();
+    let words = [
+        "init",
+        "--members",
+        "1",
+        "--program",
+        program.to_str().unwrap(),
+    ];
+    let init = committee.run(&[&words[..], &[made.path().to_str().unwrap()]].concat());
+    assert!(String::from_utf8(init.stderr).unwrap().contains(told));
+    // A key that is no member's is told of, and four members of nothing.
+    fs::remove_file(folder.join("key")).unwrap();
+    assert!(
+        committee
+            .run(&["keygen", folder.join("key").to_str().unwrap()])
+            .status
+            .success()
+    );
+    let checked = committee.run(&["check", folder.to_str().unwrap()]);
+    let said = String::from_utf8(checked.stderr).unwrap();
+    assert!(
+        !checked.status.success() && said.contains("no member's key"),
+        "{said}"
+    );
+    let four = Committee::new(4, |_| {});
+    let checked = four.run(&["check", four.member(2).to_str().unwrap()]);
+    let said = String::from_utf8(checked.stdout).unwrap();
+    assert!(
+        said.contains("member 2 of 4, of whom 1 may fail") && !said.contains("warning"),
+        "{said}"
+    );
 }
 
 #[cfg(not(feature = "library"))]

@@ -17,7 +17,7 @@ use Rattle.node_due.proofs.casting_votes.cast.Goals as goal
 pub returns-in_default-clause-any_moment : goal.returns-in_default-clause-any_moment
 returns-in_default-clause-any_moment g c = λ s h ahead may keeps.
     let f = formats {S = g.row.S.Denot} {P = g.row.S-PublicKey.Denot} g.D.PartialEq.eq g.D.Write.spelling g.S.Signature.Write.spelling g.S.Certificate.Write.spelling g.D.Read.reading g.S.Signature.Read.reading g.S.Certificate.Read.reading (g.S.Scheme.size s.voter.scheme) in
-    left_at_rest g.S.Scheme f s h (Votes c.args.vote) _ _ (c.a_ledger_at_rest_leaves_its_record.ensures (owner_of s) c.args.core.now.ledger (record_of h) ahead.keeps.ledger keeps)
+    left_at_rest g.S.Scheme f s g.K.Disk h (Votes c.args.vote) _ _ (c.a_ledger_at_rest_leaves_its_record.ensures (owner_of s) c.args.core.now.ledger (record_of h) ahead.keeps.ledger keeps)
 
 -- behind that the record grew, or it did not
 pub returns-in-Err-clause-any_moment : goal.returns-in-Err-clause-any_moment
@@ -25,28 +25,28 @@ returns-in-Err-clause-any_moment g c = λ s h ahead may keeps.
     let f = formats {S = g.row.S.Denot} {P = g.row.S-PublicKey.Denot} g.D.PartialEq.eq g.D.Write.spelling g.S.Signature.Write.spelling g.S.Certificate.Write.spelling g.D.Read.reading g.S.Signature.Read.reading g.S.Certificate.Read.reading (g.S.Scheme.size s.voter.scheme) in
     let small : g.S.Scheme.size s.voter.scheme < 2 ^ 32 = subst (λ (n : ℕ). n < 2 ^ 32) (c.participants-members.ensures.value ∙ ap g.S.Scheme.size (c.deref.ensures ∙ ahead.keeps.set_up.scheme_is)) (omega (arith, c.participants-members.type_inv)) in
     let may_now = may (vote_recordable f _ _ (c.packets_are_read_back.ensures.recordable (g.S.Scheme.size s.voter.scheme) small) c.in-Ok.artifact c.args.vote c.in-Ok.ensures.copy c.record.ensures.readable) in
-    left_by g.S.Scheme f s h (Votes c.args.vote) c.in-Ok.artifact _ _ (ap Some (sym c.in-Ok.ensures.copy)) may_now (c.record.ensures.any_moment (owner_of s) (record_of h) ahead.keeps.ledger keeps)
+    left_by g.S.Scheme f s g.K.Disk h (Votes c.args.vote) c.in-Ok.artifact _ _ (ap Some (sym c.in-Ok.ensures.copy)) may_now (c.record.ensures.any_moment (owner_of s) (record_of h) ahead.keeps.ledger keeps)
 
 pub returns-in-Ok-hand_cast_out-clause-any_moment : goal.returns-in-Ok-hand_cast_out-clause-any_moment
 returns-in-Ok-hand_cast_out-clause-any_moment g c = λ s h ahead may keeps.
     let f = formats {S = g.row.S.Denot} {P = g.row.S-PublicKey.Denot} g.D.PartialEq.eq g.D.Write.spelling g.S.Signature.Write.spelling g.S.Certificate.Write.spelling g.D.Read.reading g.S.Signature.Read.reading g.S.Certificate.Read.reading (g.S.Scheme.size s.voter.scheme) in
     let small : g.S.Scheme.size s.voter.scheme < 2 ^ 32 = subst (λ (n : ℕ). n < 2 ^ 32) (c.participants-members.ensures.value ∙ ap g.S.Scheme.size (c.deref.ensures ∙ ahead.keeps.set_up.scheme_is)) (omega (arith, c.participants-members.type_inv)) in
     let may_now = may (vote_recordable f _ _ (c.packets_are_read_back.ensures.recordable (g.S.Scheme.size s.voter.scheme) small) c.in-Ok.artifact c.args.vote c.in-Ok.ensures.copy c.record.ensures.readable) in
-    left_by g.S.Scheme f s h (Votes c.args.vote) c.in-Ok.artifact _ _ (ap Some (sym c.in-Ok.ensures.copy)) may_now (c.record.ensures.any_moment (owner_of s) (record_of h) ahead.keeps.ledger keeps)
+    left_by g.S.Scheme f s g.K.Disk h (Votes c.args.vote) c.in-Ok.artifact _ _ (ap Some (sym c.in-Ok.ensures.copy)) may_now (c.record.ensures.any_moment (owner_of s) (record_of h) ahead.keeps.ledger keeps)
 
 pub returns-in-Err-hand_cast_out-clause-any_moment : goal.returns-in-Err-hand_cast_out-clause-any_moment
 returns-in-Err-hand_cast_out-clause-any_moment g c = λ s h ahead may keeps.
     let f = formats {S = g.row.S.Denot} {P = g.row.S-PublicKey.Denot} g.D.PartialEq.eq g.D.Write.spelling g.S.Signature.Write.spelling g.S.Certificate.Write.spelling g.D.Read.reading g.S.Signature.Read.reading g.S.Certificate.Read.reading (g.S.Scheme.size s.voter.scheme) in
     let small : g.S.Scheme.size s.voter.scheme < 2 ^ 32 = subst (λ (n : ℕ). n < 2 ^ 32) (c.participants-members.ensures.value ∙ ap g.S.Scheme.size (c.deref.ensures ∙ ahead.keeps.set_up.scheme_is)) (omega (arith, c.participants-members.type_inv)) in
     let may_now = may (vote_recordable f _ _ (c.packets_are_read_back.ensures.recordable (g.S.Scheme.size s.voter.scheme) small) c.in-Ok.artifact c.args.vote c.in-Ok.ensures.copy c.record.ensures.readable) in
-    left_by g.S.Scheme f s h (Votes c.args.vote) c.in-Ok.artifact _ _ (ap Some (sym c.in-Ok.ensures.copy)) may_now (c.record.ensures.any_moment (owner_of s) (record_of h) ahead.keeps.ledger keeps)
+    left_by g.S.Scheme f s g.K.Disk h (Votes c.args.vote) c.in-Ok.artifact _ _ (ap Some (sym c.in-Ok.ensures.copy)) may_now (c.record.ensures.any_moment (owner_of s) (record_of h) ahead.keeps.ledger keeps)
 
 pub returns-in-Err-tell_own_vote-clause-any_moment : goal.returns-in-Err-tell_own_vote-clause-any_moment
 returns-in-Err-tell_own_vote-clause-any_moment g c = λ s h ahead may keeps.
     let f = formats {S = g.row.S.Denot} {P = g.row.S-PublicKey.Denot} g.D.PartialEq.eq g.D.Write.spelling g.S.Signature.Write.spelling g.S.Certificate.Write.spelling g.D.Read.reading g.S.Signature.Read.reading g.S.Certificate.Read.reading (g.S.Scheme.size s.voter.scheme) in
     let small : g.S.Scheme.size s.voter.scheme < 2 ^ 32 = subst (λ (n : ℕ). n < 2 ^ 32) (c.participants-members.ensures.value ∙ ap g.S.Scheme.size (c.deref.ensures ∙ ahead.keeps.set_up.scheme_is)) (omega (arith, c.participants-members.type_inv)) in
     let may_now = may (vote_recordable f _ _ (c.packets_are_read_back.ensures.recordable (g.S.Scheme.size s.voter.scheme) small) c.in-Ok.artifact c.args.vote c.in-Ok.ensures.copy c.record.ensures.readable) in
-    left_by g.S.Scheme f s h (Votes c.args.vote) c.in-Ok.artifact _ _ (ap Some (sym c.in-Ok.ensures.copy)) may_now (c.record.ensures.any_moment (owner_of s) (record_of h) ahead.keeps.ledger keeps)
+    left_by g.S.Scheme f s g.K.Disk h (Votes c.args.vote) c.in-Ok.artifact _ _ (ap Some (sym c.in-Ok.ensures.copy)) may_now (c.record.ensures.any_moment (owner_of s) (record_of h) ahead.keeps.ledger keeps)
 
 pub returns-in-Ok-hand_cast_out-clause-taken : goal.returns-in-Ok-hand_cast_out-clause-taken
 returns-in-Ok-hand_cast_out-clause-taken g c = λ s h ahead may opens.

@@ -12,32 +12,32 @@ use Rattle.node_due.proofs.constructing.learn_made.Goals as goal
 pub returns-in_default-clause-any_moment : goal.returns-in_default-clause-any_moment
 returns-in_default-clause-any_moment g c = λ s h view kind batch ahead may is keeps.
     let f = formats {S = g.row.S.Denot} {P = g.row.S-PublicKey.Denot} g.D.PartialEq.eq g.D.Write.spelling g.S.Signature.Write.spelling g.S.Certificate.Write.spelling g.D.Read.reading g.S.Signature.Read.reading g.S.Certificate.Read.reading (g.S.Scheme.size s.voter.scheme) in
-    left_at_rest g.S.Scheme f s h (Constructs view kind batch) _ _ (c.a_ledger_at_rest_leaves_its_record.ensures (owner_of s) c.args.core.now.ledger (record_of h) ahead.keeps.ledger keeps)
+    left_at_rest g.S.Scheme f s g.K.Disk h (Constructs view kind batch) _ _ (c.a_ledger_at_rest_leaves_its_record.ensures (owner_of s) c.args.core.now.ledger (record_of h) ahead.keeps.ledger keeps)
 
 -- behind that the record grew, or it did not
 pub returns-in-Err-clause-any_moment : goal.returns-in-Err-clause-any_moment
 returns-in-Err-clause-any_moment g c = λ s h view kind batch ahead may is keeps.
     let f = formats {S = g.row.S.Denot} {P = g.row.S-PublicKey.Denot} g.D.PartialEq.eq g.D.Write.spelling g.S.Signature.Write.spelling g.S.Certificate.Write.spelling g.D.Read.reading g.S.Signature.Read.reading g.S.Certificate.Read.reading (g.S.Scheme.size s.voter.scheme) in
     let may_now = may (adds_spelled g.S.Scheme f s h view kind batch c.args.certificate.now c.in-Ok.artifact _ is c.in-Ok.ensures.copy c.record.ensures.readable) in
-    left_by_made g.S.Scheme f s h view kind batch c.args.certificate.now c.in-Ok.artifact _ _ is c.in-Ok.ensures.copy may_now (c.record.ensures.any_moment (owner_of s) (record_of h) ahead.keeps.ledger keeps)
+    left_by_made g.S.Scheme f s h g.K.Disk view kind batch c.args.certificate.now c.in-Ok.artifact _ _ is c.in-Ok.ensures.copy may_now (c.record.ensures.any_moment (owner_of s) (record_of h) ahead.keeps.ledger keeps)
 
 pub returns-in-Err-update_repair-clause-any_moment : goal.returns-in-Err-update_repair-clause-any_moment
 returns-in-Err-update_repair-clause-any_moment g c = λ s h view kind batch ahead may is keeps.
     let f = formats {S = g.row.S.Denot} {P = g.row.S-PublicKey.Denot} g.D.PartialEq.eq g.D.Write.spelling g.S.Signature.Write.spelling g.S.Certificate.Write.spelling g.D.Read.reading g.S.Signature.Read.reading g.S.Certificate.Read.reading (g.S.Scheme.size s.voter.scheme) in
     let may_now = may (adds_spelled g.S.Scheme f s h view kind batch c.args.certificate.now c.in-Ok.artifact _ is c.in-Ok.ensures.copy c.record.ensures.readable) in
-    left_by_made g.S.Scheme f s h view kind batch c.args.certificate.now c.in-Ok.artifact _ _ is c.in-Ok.ensures.copy may_now (c.record.ensures.any_moment (owner_of s) (record_of h) ahead.keeps.ledger keeps)
+    left_by_made g.S.Scheme f s h g.K.Disk view kind batch c.args.certificate.now c.in-Ok.artifact _ _ is c.in-Ok.ensures.copy may_now (c.record.ensures.any_moment (owner_of s) (record_of h) ahead.keeps.ledger keeps)
 
 pub returns-in-Err-enter-clause-any_moment : goal.returns-in-Err-enter-clause-any_moment
 returns-in-Err-enter-clause-any_moment g c = λ s h view kind batch ahead may is keeps.
     let f = formats {S = g.row.S.Denot} {P = g.row.S-PublicKey.Denot} g.D.PartialEq.eq g.D.Write.spelling g.S.Signature.Write.spelling g.S.Certificate.Write.spelling g.D.Read.reading g.S.Signature.Read.reading g.S.Certificate.Read.reading (g.S.Scheme.size s.voter.scheme) in
     let may_now = may (adds_spelled g.S.Scheme f s h view kind batch c.args.certificate.now c.in-Ok.artifact _ is c.in-Ok.ensures.copy c.record.ensures.readable) in
-    left_by_made g.S.Scheme f s h view kind batch c.args.certificate.now c.in-Ok.artifact _ _ is c.in-Ok.ensures.copy may_now (c.record.ensures.any_moment (owner_of s) (record_of h) ahead.keeps.ledger keeps)
+    left_by_made g.S.Scheme f s h g.K.Disk view kind batch c.args.certificate.now c.in-Ok.artifact _ _ is c.in-Ok.ensures.copy may_now (c.record.ensures.any_moment (owner_of s) (record_of h) ahead.keeps.ledger keeps)
 
 pub returns-clause-any_moment : goal.returns-clause-any_moment
 returns-clause-any_moment g c = λ s h view kind batch ahead may is keeps.
     let f = formats {S = g.row.S.Denot} {P = g.row.S-PublicKey.Denot} g.D.PartialEq.eq g.D.Write.spelling g.S.Signature.Write.spelling g.S.Certificate.Write.spelling g.D.Read.reading g.S.Signature.Read.reading g.S.Certificate.Read.reading (g.S.Scheme.size s.voter.scheme) in
     let may_now = may (adds_spelled g.S.Scheme f s h view kind batch c.args.certificate.now c.in-Ok.artifact _ is c.in-Ok.ensures.copy c.record.ensures.readable) in
-    left_by_made g.S.Scheme f s h view kind batch c.args.certificate.now c.in-Ok.artifact _ _ is c.in-Ok.ensures.copy may_now (c.record.ensures.any_moment (owner_of s) (record_of h) ahead.keeps.ledger keeps)
+    left_by_made g.S.Scheme f s h g.K.Disk view kind batch c.args.certificate.now c.in-Ok.artifact _ _ is c.in-Ok.ensures.copy may_now (c.record.ensures.any_moment (owner_of s) (record_of h) ahead.keeps.ledger keeps)
 
 pub returns-clause-keeps : goal.returns-clause-keeps
 returns-clause-keeps g c = λ s h view kind batch ahead may is.

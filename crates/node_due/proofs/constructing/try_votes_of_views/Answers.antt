@@ -1,7 +1,9 @@
 use Rattle.std.proofs.Common.{arith, ◌<◌, ◌∙◌, ℕ, refl, sym, ap, subst}
 use Rattle.std.specs.Prelude.{◌^◌}
 use Rattle.std.proofs.lemmas.Result.{on_ok_weaker}
-use Rattle.journal_single.specs.Disk.{LeavesOnly}
+use Rattle.messages_certificates.specs.declared.artifact.Artifact.{Artifact}
+use Rattle.journal_books.specs.declared.books.Books.{Books}
+use Rattle.journal_books.specs.Books.{LeaveBook}
 use Rattle.node_outbox.specs.Handing.{nothing_more}
 use Rattle.node_requests.specs.Asking.{is_none}
 use Rattle.simplex_member.specs.declared.fault.NodeFault.TheVariants as step_fault
@@ -25,8 +27,8 @@ returns-in-Ok-Some-default-Forwards-clause-tried g c = λ s h k.
     let ahead = forwards g.S.Scheme g.L.Elector g.K.Disk f s c.args.core.now c.next_due.new.self h k c.in-Ok-Some-default-Forwards.view c.in-Ok-Some-default-Forwards.proposal (does s h k.votes) in
     tried_one g.S.Scheme g.L.Elector g.K.Disk f s is_none (NoConstructionToMake g.S.Scheme f s) c.args.core.now c.take_proposal.new.core h (Forwards c.in-Ok-Some-default-Forwards.view c.in-Ok-Some-default-Forwards.proposal) c.args.out.now.items c.args.out.now.items c.take_proposal.result refl c.take_proposal.ensures.did
     (on_ok_weaker c.take_proposal.result (λ taken. record { keeps = taken s h ahead.0 ahead.1; acts = nothing_more f c.args.out.now.items }) c.take_proposal.ensures.taken)
-    (λ it. subst (λ (on : g.row.K.Denot). LeavesOnly (g.K.Disk.calls c.args.core.now.ledger.journal.disk) (g.K.Disk.calls on) (IsLeftBy g.S.Scheme f s h (Forwards c.in-Ok-Some-default-Forwards.view c.in-Ok-Some-default-Forwards.proposal))) (sym c.take_proposal.ensures.disk)
-    (left_at_rest g.S.Scheme f s h (Forwards c.in-Ok-Some-default-Forwards.view c.in-Ok-Some-default-Forwards.proposal) _ _ ((c.a_ledger_at_rest_leaves_its_record.ensures (owner_of s) c.args.core.now.ledger (record_of h) k.ledger) it)))
+    (λ it. subst (λ (b : Books (Artifact g.row.S.Denot g.row.D.Denot g.row.S-PublicKey.Denot g.row.S-Signature.Denot g.row.S-Certificate.Denot) g.row.K.Denot). LeaveBook g.K.Disk c.args.core.now.ledger.books b (IsLeftBy g.S.Scheme f s h (Forwards c.in-Ok-Some-default-Forwards.view c.in-Ok-Some-default-Forwards.proposal))) (sym c.take_proposal.ensures.book)
+    (left_at_rest g.S.Scheme f s g.K.Disk h (Forwards c.in-Ok-Some-default-Forwards.view c.in-Ok-Some-default-Forwards.proposal) _ _ ((c.a_ledger_at_rest_leaves_its_record.ensures (owner_of s) c.args.core.now.ledger (record_of h) k.ledger) it)))
 
 pub returns-in-Ok-Some-default-Made-clause-tried : goal.returns-in-Ok-Some-default-Made-clause-tried
 returns-in-Ok-Some-default-Made-clause-tried g c = λ s h k.

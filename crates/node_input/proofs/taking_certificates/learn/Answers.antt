@@ -19,28 +19,28 @@ use Rattle.node_input.proofs.taking_certificates.learn.Goals as goal
 pub returns-in_default-clause-any_moment : goal.returns-in_default-clause-any_moment
 returns-in_default-clause-any_moment g c = λ s h k allowed keeps.
     let f = formats {S = g.row.S.Denot} {P = g.row.S-PublicKey.Denot} g.D.PartialEq.eq g.D.Write.spelling g.S.Signature.Write.spelling g.S.Certificate.Write.spelling g.D.Read.reading g.S.Signature.Read.reading g.S.Certificate.Read.reading (g.S.Scheme.size s.voter.scheme) in
-    left_at_rest g.S.Scheme f s h (Came c.args.certificate.now) _ _ (c.a_ledger_at_rest_leaves_its_record.ensures (owner_of s) c.args.core.now.ledger (record_of h) k.ledger keeps)
+    left_at_rest g.S.Scheme f s g.K.Disk h (Came c.args.certificate.now) _ _ (c.a_ledger_at_rest_leaves_its_record.ensures (owner_of s) c.args.core.now.ledger (record_of h) k.ledger keeps)
 
 -- behind that the record grew, or it did not
 pub returns-in-Err-clause-any_moment : goal.returns-in-Err-clause-any_moment
 returns-in-Err-clause-any_moment g c = λ s h k allowed keeps.
     let f = formats {S = g.row.S.Denot} {P = g.row.S-PublicKey.Denot} g.D.PartialEq.eq g.D.Write.spelling g.S.Signature.Write.spelling g.S.Certificate.Write.spelling g.D.Read.reading g.S.Signature.Read.reading g.S.Certificate.Read.reading (g.S.Scheme.size s.voter.scheme) in
-    left_by g.S.Scheme f s h (Came c.args.certificate.now) c.in-Ok.artifact _ _ (ap Some (sym c.in-Ok.ensures.copy)) allowed (c.record.ensures.any_moment (owner_of s) (record_of h) k.ledger keeps)
+    left_by g.S.Scheme f s g.K.Disk h (Came c.args.certificate.now) c.in-Ok.artifact _ _ (ap Some (sym c.in-Ok.ensures.copy)) allowed (c.record.ensures.any_moment (owner_of s) (record_of h) k.ledger keeps)
 
 pub returns-in-Err-update_repair-clause-any_moment : goal.returns-in-Err-update_repair-clause-any_moment
 returns-in-Err-update_repair-clause-any_moment g c = λ s h k allowed keeps.
     let f = formats {S = g.row.S.Denot} {P = g.row.S-PublicKey.Denot} g.D.PartialEq.eq g.D.Write.spelling g.S.Signature.Write.spelling g.S.Certificate.Write.spelling g.D.Read.reading g.S.Signature.Read.reading g.S.Certificate.Read.reading (g.S.Scheme.size s.voter.scheme) in
-    left_by g.S.Scheme f s h (Came c.args.certificate.now) c.in-Ok.artifact _ _ (ap Some (sym c.in-Ok.ensures.copy)) allowed (c.record.ensures.any_moment (owner_of s) (record_of h) k.ledger keeps)
+    left_by g.S.Scheme f s g.K.Disk h (Came c.args.certificate.now) c.in-Ok.artifact _ _ (ap Some (sym c.in-Ok.ensures.copy)) allowed (c.record.ensures.any_moment (owner_of s) (record_of h) k.ledger keeps)
 
 pub returns-in-Err-tell_votes-clause-any_moment : goal.returns-in-Err-tell_votes-clause-any_moment
 returns-in-Err-tell_votes-clause-any_moment g c = λ s h k allowed keeps.
     let f = formats {S = g.row.S.Denot} {P = g.row.S-PublicKey.Denot} g.D.PartialEq.eq g.D.Write.spelling g.S.Signature.Write.spelling g.S.Certificate.Write.spelling g.D.Read.reading g.S.Signature.Read.reading g.S.Certificate.Read.reading (g.S.Scheme.size s.voter.scheme) in
-    left_by g.S.Scheme f s h (Came c.args.certificate.now) c.in-Ok.artifact _ _ (ap Some (sym c.in-Ok.ensures.copy)) allowed (c.record.ensures.any_moment (owner_of s) (record_of h) k.ledger keeps)
+    left_by g.S.Scheme f s g.K.Disk h (Came c.args.certificate.now) c.in-Ok.artifact _ _ (ap Some (sym c.in-Ok.ensures.copy)) allowed (c.record.ensures.any_moment (owner_of s) (record_of h) k.ledger keeps)
 
 pub returns-clause-any_moment : goal.returns-clause-any_moment
 returns-clause-any_moment g c = λ s h k allowed keeps.
     let f = formats {S = g.row.S.Denot} {P = g.row.S-PublicKey.Denot} g.D.PartialEq.eq g.D.Write.spelling g.S.Signature.Write.spelling g.S.Certificate.Write.spelling g.D.Read.reading g.S.Signature.Read.reading g.S.Certificate.Read.reading (g.S.Scheme.size s.voter.scheme) in
-    left_by g.S.Scheme f s h (Came c.args.certificate.now) c.in-Ok.artifact _ _ (ap Some (sym c.in-Ok.ensures.copy)) allowed (c.record.ensures.any_moment (owner_of s) (record_of h) k.ledger keeps)
+    left_by g.S.Scheme f s g.K.Disk h (Came c.args.certificate.now) c.in-Ok.artifact _ _ (ap Some (sym c.in-Ok.ensures.copy)) allowed (c.record.ensures.any_moment (owner_of s) (record_of h) k.ledger keeps)
 
 pub returns-clause-taken : goal.returns-clause-taken
 returns-clause-taken g c = λ s h k allowed.

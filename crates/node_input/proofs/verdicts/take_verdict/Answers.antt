@@ -33,7 +33,7 @@ returns-in-Ok-clause-any_moment g c = λ s h k awaited keeps.
     let small : g.S.Scheme.size s.voter.scheme < 2 ^ 32 = subst (λ (n : ℕ). n < 2 ^ 32) (c.participants-members.ensures.value ∙ ap g.S.Scheme.size (c.deref.ensures ∙ k.set_up.scheme_is)) (omega (arith, c.participants-members.type_inv)) in
     let may = verdict_allowed g.S.Scheme f s h r c.args.ok k.begun awaited j
     (verdict_recordable g.S.Scheme f s h r _ _ (c.packets_are_read_back.ensures.recordable (g.S.Scheme.size s.voter.scheme) small) c.new-round.result c.args.ok is c.record.ensures.readable) in
-    rw c.learn_verdict.ensures.disk (left_by g.S.Scheme f s h (Judged r c.args.ok) (artifact.Certification c.new-round.result c.args.ok) _ _ (ap (λ (x : Round). Some (artifact.Certification x c.args.ok)) (sym is))
+    rw c.learn_verdict.ensures.book (left_by g.S.Scheme f s g.K.Disk h (Judged r c.args.ok) (artifact.Certification c.new-round.result c.args.ok) _ _ (ap (λ (x : Round). Some (artifact.Certification x c.args.ok)) (sym is))
     may (c.record.ensures.any_moment (owner_of s) (record_of h) k.ledger keeps))
 
 pub returns-in-Ok-clause-device : goal.returns-in-Ok-clause-device
@@ -51,5 +51,5 @@ returns-in-Err-clause-any_moment g c = λ s h k awaited keeps.
     let small : g.S.Scheme.size s.voter.scheme < 2 ^ 32 = subst (λ (n : ℕ). n < 2 ^ 32) (c.participants-members.ensures.value ∙ ap g.S.Scheme.size (c.deref.ensures ∙ k.set_up.scheme_is)) (omega (arith, c.participants-members.type_inv)) in
     let may = verdict_allowed g.S.Scheme f s h r c.args.ok k.begun awaited j
     (verdict_recordable g.S.Scheme f s h r _ _ (c.packets_are_read_back.ensures.recordable (g.S.Scheme.size s.voter.scheme) small) c.new-round.result c.args.ok is c.record.ensures.readable) in
-    left_by g.S.Scheme f s h (Judged r c.args.ok) (artifact.Certification c.new-round.result c.args.ok) _ _ (ap (λ (x : Round). Some (artifact.Certification x c.args.ok)) (sym is))
+    left_by g.S.Scheme f s g.K.Disk h (Judged r c.args.ok) (artifact.Certification c.new-round.result c.args.ok) _ _ (ap (λ (x : Round). Some (artifact.Certification x c.args.ok)) (sym is))
     may (c.record.ensures.any_moment (owner_of s) (record_of h) k.ledger keeps)

@@ -1,6 +1,7 @@
+use Rattle.std.proofs.Common.{refl}
 use Rattle.simplex_member.specs.Packet.{formats}
 use Rattle.node_steps.proofs.Stepped.{answered_whole, failed_whole}
-use Rattle.node_core.specs.Telling.{tells_behind}
+use Rattle.node_core.specs.Telling.{tells_behind, tells_err}
 use Rattle.node_steps.proofs.answering.answer_whole.Goals as goal
 
 pub returns-in-Ok-clause-answered : goal.returns-in-Ok-clause-answered
@@ -15,3 +16,6 @@ returns-in-Err-clause-answered g c = λ s h k.
 
 pub returns-in-Ok-clause-faults : goal.returns-in-Ok-clause-faults
 returns-in-Ok-clause-faults g c = tells_behind c.in-Ok.ensures.faults c.go_on.ensures.faults
+
+pub returns-in-Err-clause-faults : goal.returns-in-Err-clause-faults
+returns-in-Err-clause-faults g c = tells_err _ _ refl refl c.in-Err.ensures.faults

@@ -4,7 +4,9 @@ use Rattle.simplex_member.specs.Packet.{formats}
 use Rattle.simplex_member.specs.Recorded.{record_of}
 use Rattle.simplex_member.specs.Setup.{owner_of}
 use Rattle.node_steps.proofs.Stepped.{failed_goes_on, refused_goes_on, settled_goes_on}
-use Rattle.node_core.specs.Telling.{tells_err}
+use Rattle.journal_books.specs.BooksLaws.{same_not_failed}
+use Rattle.node_core.specs.Keeps.{disks_of}
+use Rattle.node_core.specs.Telling.{tells_err, tells_ok}
 use Rattle.node_steps.proofs.answering.go_on.Goals as goal
 
 pub returns-then-is_some-clause-goes_on : goal.returns-then-is_some-clause-goes_on
@@ -27,3 +29,10 @@ returns-in-Err-clause-goes_on g c = λ s mid k h event steps.
 
 pub returns-in-Err-clause-faults : goal.returns-in-Err-clause-faults
 returns-in-Err-clause-faults g c = tells_err _ _ refl refl c.in-Err.ensures.faults
+
+pub returns-in-Ok-clause-faults : goal.returns-in-Ok-clause-faults
+returns-in-Ok-clause-faults g c = tells_ok c.in-Ok.ensures.faults
+
+-- nothing was asked of a disk
+pub returns-then-is_some-clause-faults : goal.returns-then-is_some-clause-faults
+returns-then-is_some-clause-faults g c = record { device = λ is. absurd (cc is); no_device = tt; no_fault = same_not_failed g.K.Disk (disks_of c.args.core.now); not_failed = λ is. absurd (cc is) }

@@ -1,7 +1,9 @@
-use Rattle.std.proofs.Common.{ℕ, ◌∙◌, ap}
-use Rattle.journal_single.specs.Moments.{stays}
+use Rattle.std.proofs.Common.{ℕ, subst, sym}
+use Rattle.journal_books.specs.declared.disks.Disks.{Disks}
+use Rattle.journal_books.specs.Books.{HasFailed, HasNotFailed}
 use Rattle.simplex_member.specs.Packet.{formats}
-use Rattle.node_steps.proofs.Stepped.{settled_at_size}
+use Rattle.node_steps.specs.Keeps.{disks_of}
+use Rattle.node_steps.proofs.Stepped.{left_at_size, left_back, settled_at_size}
 use Rattle.node_steps.proofs.opening.begin.Goals as goal
 
 pub returns-in-Ok-clause-opened : goal.returns-in-Ok-clause-opened
@@ -10,7 +12,9 @@ returns-in-Ok-clause-opened g c = λ n s on now size.
     (λ h k. (c.in-Ok.ensures.settled s h k).ok)
 
 pub returns-in-Ok-clause-any_moment : goal.returns-in-Ok-clause-any_moment
-returns-in-Ok-clause-any_moment g c = λ s h k. (c.in-Ok.ensures.settled s h k.core).any_moment
+returns-in-Ok-clause-any_moment g c = λ n s on now size open_is keeps one.
+    left_at_size c.settle.new.core (λ (m : ℕ). formats {S = g.row.S.Denot} {P = g.row.S-PublicKey.Denot} g.D.PartialEq.eq g.D.Write.spelling g.S.Signature.Write.spelling g.S.Certificate.Write.spelling g.D.Read.reading g.S.Signature.Read.reading g.S.Certificate.Read.reading m) size
+    (λ h k. (c.in-Ok.ensures.settled s h k).any_moment keeps) open_is one
 
 -- no step failed before
 pub not_begun-requires : goal.not_begun-requires
@@ -21,10 +25,15 @@ pub returns-in-Err-clause-memory : goal.returns-in-Err-clause-memory
 returns-in-Err-clause-memory g c = c.not_begun.ensures.faults
 
 pub returns-in-Err-clause-device : goal.returns-in-Err-clause-device
-returns-in-Err-clause-device g c = λ is. ap g.K.Disk.failed c.close.ensures.disk ∙ c.in-Err.ensures.faults.device (let same = c.not_begun.ensures.device.0 is in cc same)
+returns-in-Err-clause-device g c = λ is.
+    subst (λ (on : Disks g.row.K.Denot). HasFailed g.K.Disk (disks_of c.args.node) on) (sym c.into_disks.ensures.disks) (c.in-Err.ensures.faults.device (let same = c.not_begun.ensures.device.0 is in cc same))
 
 pub returns-in-Err-clause-no_device : goal.returns-in-Err-clause-no_device
-returns-in-Err-clause-no_device g c = λ isnt. ap g.K.Disk.failed c.close.ensures.disk ∙ c.in-Err.ensures.faults.no_device (λ it. isnt (c.not_begun.ensures.device.1 it))
+returns-in-Err-clause-no_device g c = λ isnt.
+    subst (λ (on : Disks g.row.K.Denot). HasNotFailed g.K.Disk (disks_of c.args.node) on) (sym c.into_disks.ensures.disks) (c.in-Err.ensures.faults.no_device (λ it. isnt (c.not_begun.ensures.device.1 it)))
 
 pub returns-in-Err-clause-any_moment_of_a_fault : goal.returns-in-Err-clause-any_moment_of_a_fault
-returns-in-Err-clause-any_moment_of_a_fault g c = λ s h k keeps. stays ((c.in-Err.ensures.settled s h k.core).any_moment keeps) (ap g.K.Disk.calls c.close.ensures.disk)
+returns-in-Err-clause-any_moment_of_a_fault g c = λ n s on now size open_is keeps one.
+    left_back g.K.Disk _ on _ _ c.into_disks.ensures.disks
+    (left_at_size c.settle.new.core (λ (m : ℕ). formats {S = g.row.S.Denot} {P = g.row.S-PublicKey.Denot} g.D.PartialEq.eq g.D.Write.spelling g.S.Signature.Write.spelling g.S.Certificate.Write.spelling g.D.Read.reading g.S.Signature.Read.reading g.S.Certificate.Read.reading m) size
+    (λ h k. (c.in-Err.ensures.settled s h k).any_moment keeps) open_is one)

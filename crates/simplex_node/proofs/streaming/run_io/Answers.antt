@@ -1,7 +1,7 @@
 use Rattle.simplex_member.specs.Packet.{formats}
 use Rattle.node_wire.specs.Streaming.{spelled}
 use Rattle.simplex_node.proofs.Stepped.{failed_answers_none}
-use Rattle.simplex_node.proofs.Streamed.{io_answers, io_device, io_failed, io_leaves, io_no_device, io_still}
+use Rattle.simplex_node.proofs.Streamed.{io_answers, io_as_many, io_device, io_failed, io_leaves, io_no_device, io_still}
 use Rattle.simplex_node.proofs.streaming.run_io.Goals as goal
 
 pub returns-clause-answers : goal.returns-clause-answers
@@ -29,6 +29,11 @@ returns-clause-device g c = io_device g.S.Scheme g.L.Elector g.K.Disk (formats g
 
 pub returns-clause-no_device : goal.returns-clause-no_device
 returns-clause-no_device g c = io_no_device g.S.Scheme g.L.Elector g.K.Disk (formats g.D.PartialEq.eq g.D.Write.spelling g.S.Signature.Write.spelling g.S.Certificate.Write.spelling g.D.Read.reading g.S.Signature.Read.reading g.S.Certificate.Read.reading)
+    g.D.Write.fits g.D.Write.spelling (spelled g.S.PublicKey.Write.spelling g.D.Write.spelling g.S.Signature.Write.spelling g.S.Certificate.Write.spelling) (g.D.Read.reading 65535) c.args.node.now c.answer_stream.new.node _ c.answer_stream.result
+    (g.R.Source.remaining c.args.reader.now) (g.W.Sink.contents c.args.writer.now) (g.W.Sink.contents c.answer_stream.new.writer) c.answer_stream.ensures.answers
+
+pub returns-clause-as_many : goal.returns-clause-as_many
+returns-clause-as_many g c = io_as_many g.S.Scheme g.L.Elector g.K.Disk (formats g.D.PartialEq.eq g.D.Write.spelling g.S.Signature.Write.spelling g.S.Certificate.Write.spelling g.D.Read.reading g.S.Signature.Read.reading g.S.Certificate.Read.reading)
     g.D.Write.fits g.D.Write.spelling (spelled g.S.PublicKey.Write.spelling g.D.Write.spelling g.S.Signature.Write.spelling g.S.Certificate.Write.spelling) (g.D.Read.reading 65535) c.args.node.now c.answer_stream.new.node _ c.answer_stream.result
     (g.R.Source.remaining c.args.reader.now) (g.W.Sink.contents c.args.writer.now) (g.W.Sink.contents c.answer_stream.new.writer) c.answer_stream.ensures.answers
 

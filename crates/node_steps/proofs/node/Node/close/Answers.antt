@@ -1,12 +1,9 @@
-use Rattle.std.proofs.Common.{subst}
-use Rattle.journal_single.specs.Disk.{MayLeave}
-use Rattle.journal_single.specs.Moments.{at_last}
+use Rattle.std.proofs.Common.{subst, sym}
+use Rattle.journal_books.specs.declared.disks.Disks.{Disks}
+use Rattle.journal_books.specs.Books.{MayBeRead}
 use Rattle.node_steps.proofs.node.Node.close.Goals as goal
 
--- a node at rest leaves what its ledger holds
-pub returns : goal.returns
-returns g c = record {
-  disk = c.close.ensures;
-  left = λ s h k keeps image left. at_last (c.a_ledger_at_rest_leaves_its_record.ensures _ _ _ k.core.ledger keeps) image
-      (subst (λ (on : g.row.K.Denot). MayLeave (g.K.Disk.calls on) image) c.close.ensures left);
-}
+-- what is left of the disks is left of them in this form
+pub returns-clause-left : goal.returns-clause-left
+returns-clause-left g c = λ s h k keeps read may.
+    c.into_disks.ensures.left s h k keeps read (subst (λ (on : Disks g.row.K.Denot). MayBeRead g.K.Disk on read) (sym c.one.ensures) may)

@@ -1,146 +1,37 @@
-use Rattle.std.proofs.Common.{◌≡◌, ⊎_elim, inl, ℕ, [], refl, sym, ◌∙◌, ap, subst, false, Some, None}
-use Rattle.std.proofs.lemmas.Result.{IfErr-weaker, IfOk-weaker}
-use Rattle.journal_single.specs.Disk.{LeavesOnly, counted}
-use Rattle.journal_single.specs.Moments.{stays, weaker}
-use Rattle.journal_single.specs.Record.{IsReopened}
-use Rattle.simplex_member.specs.First.{IsFirst}
+use Rattle.std.proofs.Common.{subst}
+use Rattle.journal_books.specs.declared.disks.Disks.{Disks}
+use Rattle.journal_books.specs.declared.disks.Disks.TheVariants.{One}
+use Rattle.journal_books.specs.BooksLaws.{same_kind}
 use Rattle.simplex_member.specs.Packet.{formats}
-use Rattle.simplex_member.specs.Setup.{IsInTime, setup_of}
-use Rattle.node_core.specs.SettingUp.{EndsActs}
-use Rattle.node_steps.specs.Opening.{open_tests}
-use Rattle.node_steps.proofs.OfRecord.{never_device, never_early, never_late}
-use Rattle.node_steps.proofs.Stepped.{left_at_index, told_late}
-use Rattle.node_steps.proofs.Whole.{open-by, ready-by}
+use Rattle.simplex_member.specs.Setup.{setup_of}
+use Rattle.node_steps.specs.Keeps.{disks_of}
+use Rattle.node_steps.specs.Opening.{IsUnopened}
+use Rattle.node_steps.proofs.OfRecord.{as_many_back}
 use Rattle.node_steps.proofs.node.Node.open.Goals as goal
 
--- what is wrong with the arguments, before anything is asked of the disk
-pub returns-in-Err-clause-early : goal.returns-in-Err-clause-early
-returns-in-Err-clause-early g c =
-    rw c.in-Err.ensures.early
-    (subst (λ (z : g.row.S.Denot). IsFirst (open_tests g.S.Scheme (setup_of g.S.Scheme g.L.Elector c.args.config z c.args.elector 0) c.args.config c.args.now) (Some c.in-Err.fault)) c.deref.ensures c.in-Err.ensures.fault, refl)
+pub returns-in-Ok-clause-over_one : goal.returns-in-Ok-clause-over_one
+returns-in-Ok-clause-over_one g c = same_kind g.K.Disk (One c.args.disk) (disks_of c.in-Ok.opened.0) c.in-Ok.ensures.no_fault
 
-pub returns-in-Err-clause-any_moment_of_a_fault : goal.returns-in-Err-clause-any_moment_of_a_fault
-returns-in-Err-clause-any_moment_of_a_fault g c = λ index own keeps. record {
-  made = [];
-  is = refl;
-  each = λ image left. let some = c.a_disk_reads_as_one_record.ensures.some image in inl (record { before = image; bodies = some.0; left = left; reads_before = some.1; reads = some.1 });
-}
+pub returns-in-Ok-clause-has_opened : goal.returns-in-Ok-clause-has_opened
+returns-in-Ok-clause-has_opened g c = record { none_early = c.in-Ok.ensures.no_early; no_fault = c.in-Ok.ensures.no_fault; any_moment = c.in-Ok.ensures.any_moment }
 
--- a fault that is of the record is told where the ledger isn't opened, and nowhere else
-pub returns-in-Err-clause-untouched : goal.returns-in-Err-clause-untouched
-returns-in-Err-clause-untouched g c = λ told. absurd (never_early c.in-Err.fault c.in-Err.ensures.early told)
+-- as many disks are given back
+pub one-requires : goal.one-requires
+one-requires g c = as_many_back g.K.Disk c.in-Err.fault (One c.args.disk) c.in-Err.disks c.in-Err.ensures.device c.in-Err.ensures.no_device
 
-pub returns-in-Err-open-clause-untouched : goal.returns-in-Err-open-clause-untouched
-returns-in-Err-open-clause-untouched g c = λ told. c.in-Err-open.ensures.untouched (never_device c.in-Err-open.refused.0 told)
-
-pub returns-in-Err-open_over-clause-untouched : goal.returns-in-Err-open_over-clause-untouched
-returns-in-Err-open_over-clause-untouched g c = λ told. absurd (never_late c.in-Err-open_over.refused.0 (inl c.in-Err-open_over.ensures.memory.0) told)
-
-pub returns-in-Ok-open_over-clause-untouched : goal.returns-in-Ok-open_over-clause-untouched
-returns-in-Ok-open_over-clause-untouched g c = IfErr-weaker c.begin.result _ _ (λ r late told. absurd (never_late r.0 late told)) c.begin.ensures.memory
-
--- what the ledger left, where it did not open
-pub returns-in-Err-open-clause-any_moment_of_a_fault : goal.returns-in-Err-open-clause-any_moment_of_a_fault
-returns-in-Err-open-clause-any_moment_of_a_fault g c = λ index own keeps. weaker _ (c.in-Err-open.ensures.any_moment_of_a_fault keeps) (λ image left. inl left)
-
--- where the record could not be gone through, the disk is as the ledger left it
-pub returns-in-Err-open_over-clause-any_moment_of_a_fault : goal.returns-in-Err-open_over-clause-any_moment_of_a_fault
-returns-in-Err-open_over-clause-any_moment_of_a_fault g c = λ index own keeps. weaker _ (stays (c.in-Ok-open.ensures.any_moment keeps) (ap g.K.Disk.calls c.in-Err-open_over.ensures.memory.1)) (λ image left. inl left)
-
--- behind the ledger no argument is wrong
-pub returns-in-Err-open-clause-later : goal.returns-in-Err-open-clause-later
-returns-in-Err-open-clause-later g c = λ none. subst (λ (z : g.row.S.Denot). IsFirst (open_tests g.S.Scheme (setup_of g.S.Scheme g.L.Elector c.args.config z c.args.elector 0) c.args.config c.args.now) None) c.deref.ensures c.in-Ok.ensures.good
-
-pub returns-in-Err-open_over-clause-later : goal.returns-in-Err-open_over-clause-later
-returns-in-Err-open_over-clause-later g c = λ none. subst (λ (z : g.row.S.Denot). IsFirst (open_tests g.S.Scheme (setup_of g.S.Scheme g.L.Elector c.args.config z c.args.elector 0) c.args.config c.args.now) None) c.deref.ensures c.in-Ok.ensures.good
-
-pub returns-in-Ok-open_over-clause-no_early : goal.returns-in-Ok-open_over-clause-no_early
-returns-in-Ok-open_over-clause-no_early g c =
-    let good = subst (λ (z : g.row.S.Denot). IsFirst (open_tests g.S.Scheme (setup_of g.S.Scheme g.L.Elector c.args.config z c.args.elector 0) c.args.config c.args.now) None) c.deref.ensures c.in-Ok.ensures.good in
-    IfOk-weaker c.begin.result _ _ (λ r told. good) c.begin.ensures.no_fault
-
-pub returns-in-Ok-open_over-clause-later : goal.returns-in-Ok-open_over-clause-later
-returns-in-Ok-open_over-clause-later g c =
-    let good = subst (λ (z : g.row.S.Denot). IsFirst (open_tests g.S.Scheme (setup_of g.S.Scheme g.L.Elector c.args.config z c.args.elector 0) c.args.config c.args.now) None) c.deref.ensures c.in-Ok.ensures.good in
-    IfErr-weaker c.begin.result _ _ (λ r told none. good) c.begin.ensures.memory
-
-pub returns-in-Ok-open_over-clause-early : goal.returns-in-Ok-open_over-clause-early
-returns-in-Ok-open_over-clause-early g c =
-    IfErr-weaker c.begin.result _ _ (λ r told. told_late _ r.0 told) c.begin.ensures.memory
-
-pub returns-in-Ok-open_over-clause-foreign : goal.returns-in-Ok-open_over-clause-foreign
-returns-in-Ok-open_over-clause-foreign g c =
-    IfErr-weaker c.begin.result _ _ (λ r told place is keeps. absurd (⊎_elim (λ memory. cc (memory, is)) (λ device. cc (device, is)) told)) c.begin.ensures.memory
-
-pub returns-in-Ok-open_over-clause-contradiction : goal.returns-in-Ok-open_over-clause-contradiction
-returns-in-Ok-open_over-clause-contradiction g c =
-    IfErr-weaker c.begin.result _ _ (λ r told position index own is. absurd (⊎_elim (λ memory. cc (memory, is)) (λ device. cc (device, is)) told)) c.begin.ensures.memory
-
--- nor has the disk failed
-pub returns-in-Ok-open_over-clause-device : goal.returns-in-Ok-open_over-clause-device
-returns-in-Ok-open_over-clause-device g c =
-    IfErr-weaker c.begin.result _ _ (λ r told is. told is ∙ ap (λ (n : ℕ). counted false n) (ap g.K.Disk.failed c.in-Ok-open_over.ensures.disk ∙ c.in-Ok-open.ensures.no_fault)) c.begin.ensures.device
-
-pub returns-in-Ok-open_over-clause-no_device : goal.returns-in-Ok-open_over-clause-no_device
-returns-in-Ok-open_over-clause-no_device g c =
-    IfErr-weaker c.begin.result _ _ (λ r told isnt. told isnt ∙ (ap g.K.Disk.failed c.in-Ok-open_over.ensures.disk ∙ c.in-Ok-open.ensures.no_fault)) c.begin.ensures.no_device
-
-pub returns-in-Ok-open_over-clause-no_fault : goal.returns-in-Ok-open_over-clause-no_fault
-returns-in-Ok-open_over-clause-no_fault g c =
-    IfOk-weaker c.begin.result _ _ (λ r told. told ∙ (ap g.K.Disk.failed c.in-Ok-open_over.ensures.disk ∙ c.in-Ok-open.ensures.no_fault)) c.begin.ensures.no_fault
-
--- the record that was opened may be gone through
-pub open_over-requires-clause-ready : goal.open_over-requires-clause-ready
-open_over-requires-clause-ready g c =
-    let me = c.in-Ok.me in
-    let own = subst (λ (z : g.row.S.Denot). g.S.Scheme.own z ≡ Some me) c.deref.ensures c.in-Ok.ensures.member in
-    let time = subst (λ (z : g.row.S.Denot). IsInTime (setup_of g.S.Scheme g.L.Elector c.args.config z c.args.elector 0) c.args.now) c.deref.ensures c.in-Ok.ensures.in_time in
-    let ends = subst (λ (z : g.row.S.Denot). g.L.Elector.built_for c.args.elector (g.S.Scheme.size z) → EndsActs (setup_of g.S.Scheme g.L.Elector c.args.config z c.args.elector me)) c.deref.ensures c.in-Ok.ensures.ends c.requires in
-    let settings = c.settings_of-settings.result in
-    let size = g.S.Scheme.size c.args.scheme.value in (
-      me,
-      ready-by g.S.Scheme g.L.Elector g.K.Disk (formats {S = g.row.S.Denot} {P = g.row.S-PublicKey.Denot} g.D.PartialEq.eq g.D.Write.spelling g.S.Signature.Write.spelling g.S.Certificate.Write.spelling g.D.Read.reading g.S.Signature.Read.reading g.S.Certificate.Read.reading size) c.args.config c.args.elector me _ c.args.disk c.args.now settings c.in-Ok-open.ledger
-          c.args.scheme.value settings.scheme.value c.deref-2.result.now c.settings_of-settings.ensures.scheme c.deref-2.ensures (c.settings_of-settings.ensures.set_up own ends) time c.in-Ok-open.ensures.opened,
-    )
-
-pub returns-in-Ok-open_over-clause-opened : goal.returns-in-Ok-open_over-clause-opened
-returns-in-Ok-open_over-clause-opened g c =
-    let me = c.in-Ok.me in
-    let own = subst (λ (z : g.row.S.Denot). g.S.Scheme.own z ≡ Some me) c.deref.ensures c.in-Ok.ensures.member in
-    let time = subst (λ (z : g.row.S.Denot). IsInTime (setup_of g.S.Scheme g.L.Elector c.args.config z c.args.elector 0) c.args.now) c.deref.ensures c.in-Ok.ensures.in_time in
-    let ends = subst (λ (z : g.row.S.Denot). g.L.Elector.built_for c.args.elector (g.S.Scheme.size z) → EndsActs (setup_of g.S.Scheme g.L.Elector c.args.config z c.args.elector me)) c.deref.ensures c.in-Ok.ensures.ends c.requires in
-    let settings = c.settings_of-settings.result in
-    let size = g.S.Scheme.size c.args.scheme.value in
-    let s = λ (i : ℕ). setup_of g.S.Scheme g.L.Elector c.args.config c.args.scheme.value c.args.elector i in
-    let is_open =
-    open-by g.S.Scheme g.L.Elector g.K.Disk (formats {S = g.row.S.Denot} {P = g.row.S-PublicKey.Denot} g.D.PartialEq.eq g.D.Write.spelling g.S.Signature.Write.spelling g.S.Certificate.Write.spelling g.D.Read.reading g.S.Signature.Read.reading g.S.Certificate.Read.reading size) c.args.config c.args.elector me _ c.args.disk c.args.now settings c.in-Ok-open.ledger c.in-Ok-open_over.node c.in-Ok-open_over.actions.items
-    c.args.scheme.value settings.scheme.value c.deref-2.result.now c.settings_of-settings.ensures.scheme c.deref-2.ensures (c.settings_of-settings.ensures.set_up own ends) time c.in-Ok-open.ensures.opened (c.in-Ok-open_over.ensures.opened c.args.disk size me) in
-    IfOk-weaker c.begin.result _ _ (λ r settles. (me, own, settles size (s me) c.args.disk c.args.now refl is_open)) c.begin.ensures.opened
-
-pub returns-in-Ok-open_over-clause-any_moment : goal.returns-in-Ok-open_over-clause-any_moment
-returns-in-Ok-open_over-clause-any_moment g c =
-    let me = c.in-Ok.me in
-    let own = subst (λ (z : g.row.S.Denot). g.S.Scheme.own z ≡ Some me) c.deref.ensures c.in-Ok.ensures.member in
-    let time = subst (λ (z : g.row.S.Denot). IsInTime (setup_of g.S.Scheme g.L.Elector c.args.config z c.args.elector 0) c.args.now) c.deref.ensures c.in-Ok.ensures.in_time in
-    let ends = subst (λ (z : g.row.S.Denot). g.L.Elector.built_for c.args.elector (g.S.Scheme.size z) → EndsActs (setup_of g.S.Scheme g.L.Elector c.args.config z c.args.elector me)) c.deref.ensures c.in-Ok.ensures.ends c.requires in
-    let settings = c.settings_of-settings.result in
-    let size = g.S.Scheme.size c.args.scheme.value in
-    let s = λ (i : ℕ). setup_of g.S.Scheme g.L.Elector c.args.config c.args.scheme.value c.args.elector i in
-    let is_open =
-    open-by g.S.Scheme g.L.Elector g.K.Disk (formats {S = g.row.S.Denot} {P = g.row.S-PublicKey.Denot} g.D.PartialEq.eq g.D.Write.spelling g.S.Signature.Write.spelling g.S.Certificate.Write.spelling g.D.Read.reading g.S.Signature.Read.reading g.S.Certificate.Read.reading size) c.args.config c.args.elector me _ c.args.disk c.args.now settings c.in-Ok-open.ledger c.in-Ok-open_over.node c.in-Ok-open_over.actions.items
-    c.args.scheme.value settings.scheme.value c.deref-2.result.now c.settings_of-settings.ensures.scheme c.deref-2.ensures (c.settings_of-settings.ensures.set_up own ends) time c.in-Ok-open.ensures.opened (c.in-Ok-open_over.ensures.opened c.args.disk size me) in
-    IfOk-weaker c.begin.result _ _ (λ r leaves index same keeps. left_at_index s own same is_open (subst (λ (k : g.row.K.Denot). LeavesOnly (g.K.Disk.calls c.args.disk) (g.K.Disk.calls k) (IsReopened (g.K.Disk.calls c.args.disk))) (sym c.in-Ok-open_over.ensures.disk) (c.in-Ok-open.ensures.any_moment keeps)) (leaves (s me) is_open.end is_open.keeps keeps)) c.begin.ensures.any_moment
-
-pub returns-in-Ok-open_over-clause-any_moment_of_a_fault : goal.returns-in-Ok-open_over-clause-any_moment_of_a_fault
-returns-in-Ok-open_over-clause-any_moment_of_a_fault g c =
-    let me = c.in-Ok.me in
-    let own = subst (λ (z : g.row.S.Denot). g.S.Scheme.own z ≡ Some me) c.deref.ensures c.in-Ok.ensures.member in
-    let time = subst (λ (z : g.row.S.Denot). IsInTime (setup_of g.S.Scheme g.L.Elector c.args.config z c.args.elector 0) c.args.now) c.deref.ensures c.in-Ok.ensures.in_time in
-    let ends = subst (λ (z : g.row.S.Denot). g.L.Elector.built_for c.args.elector (g.S.Scheme.size z) → EndsActs (setup_of g.S.Scheme g.L.Elector c.args.config z c.args.elector me)) c.deref.ensures c.in-Ok.ensures.ends c.requires in
-    let settings = c.settings_of-settings.result in
-    let size = g.S.Scheme.size c.args.scheme.value in
-    let s = λ (i : ℕ). setup_of g.S.Scheme g.L.Elector c.args.config c.args.scheme.value c.args.elector i in
-    let is_open =
-    open-by g.S.Scheme g.L.Elector g.K.Disk (formats {S = g.row.S.Denot} {P = g.row.S-PublicKey.Denot} g.D.PartialEq.eq g.D.Write.spelling g.S.Signature.Write.spelling g.S.Certificate.Write.spelling g.D.Read.reading g.S.Signature.Read.reading g.S.Certificate.Read.reading size) c.args.config c.args.elector me _ c.args.disk c.args.now settings c.in-Ok-open.ledger c.in-Ok-open_over.node c.in-Ok-open_over.actions.items
-    c.args.scheme.value settings.scheme.value c.deref-2.result.now c.settings_of-settings.ensures.scheme c.deref-2.ensures (c.settings_of-settings.ensures.set_up own ends) time c.in-Ok-open.ensures.opened (c.in-Ok-open_over.ensures.opened c.args.disk size me) in
-    IfErr-weaker c.begin.result _ _ (λ r leaves index same keeps. left_at_index s own same is_open (subst (λ (k : g.row.K.Denot). LeavesOnly (g.K.Disk.calls c.args.disk) (g.K.Disk.calls k) (IsReopened (g.K.Disk.calls c.args.disk))) (sym c.in-Ok-open_over.ensures.disk) (c.in-Ok-open.ensures.any_moment keeps)) (leaves (s me) is_open.end is_open.keeps keeps)) c.begin.ensures.any_moment_of_a_fault
+pub returns-in-Err-clause-unopened : goal.returns-in-Err-clause-unopened
+returns-in-Err-clause-unopened g c =
+    let told = c.in-Err.ensures in
+    subst (λ (back : Disks g.row.K.Denot). IsUnopened g.S.Scheme g.L.Elector g.K.Disk
+    (formats {S = g.row.S.Denot} {P = g.row.S-PublicKey.Denot} g.D.PartialEq.eq g.D.Write.spelling g.S.Signature.Write.spelling g.S.Certificate.Write.spelling g.D.Read.reading g.S.Signature.Read.reading g.S.Certificate.Read.reading (g.S.Scheme.size c.args.scheme.value))
+    (setup_of g.S.Scheme g.L.Elector c.args.config c.args.scheme.value c.args.elector) _ c.args.config c.args.scheme.value (One c.args.disk) c.args.now c.in-Err.fault back) c.one.ensures
+    (record {
+      told_early = told.early;
+      told_later = told.later;
+      foreign = told.foreign;
+      contradiction = told.contradiction;
+      untouched = told.untouched;
+      device = told.device;
+      no_device = told.no_device;
+      any_moment = told.any_moment_of_a_fault;
+    })

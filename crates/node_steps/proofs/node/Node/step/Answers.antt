@@ -1,3 +1,4 @@
+use Rattle.node_core.specs.Telling.{tells_as_many}
 use Rattle.node_steps.proofs.node.Node.step.Goals as goal
 
 pub returns-in-Ok-clause-ok : goal.returns-in-Ok-clause-ok
@@ -16,3 +17,10 @@ returns-in-Err-clause-any_moment g c = λ s h k.
 pub returns-in-Err-clause-without_memory : goal.returns-in-Err-clause-without_memory
 returns-in-Err-clause-without_memory g c = λ s h k.
     (c.in-Err.ensures.answered s h k.core).without_memory
+
+-- the disks are as many as before
+pub returns-in-Ok-clause-as_many : goal.returns-in-Ok-clause-as_many
+returns-in-Ok-clause-as_many g c = tells_as_many _ _ _ c.in-Ok.ensures.faults
+
+pub returns-in-Err-clause-as_many : goal.returns-in-Err-clause-as_many
+returns-in-Err-clause-as_many g c = tells_as_many _ _ _ c.in-Err.ensures.faults

@@ -2,7 +2,7 @@ use Rattle.std.proofs.Common.{◌+◌, ◌++◌, ◌∷◌, [], List, ℕ, lengt
 use Rattle.std.proofs.lemmas.List.{map-append}
 use Rattle.journal_single.specs.Record.{Spells}
 use Rattle.simplex_journal.specs.Reading.{IsPairAtRest}
-use Rattle.simplex_journal.proofs.Rewriting.{rests_on}
+use Rattle.simplex_journal.proofs.Rewriting.{rests_either, rests_on}
 use Rattle.simplex_journal.proofs.pair.Pair.append.Goals as goal
 
 pub returns-then-size-ge-TOO_LONG-clause-any_moment : goal.returns-then-size-ge-TOO_LONG-clause-any_moment
@@ -23,3 +23,9 @@ invariant_of-self g c = λ k fine.
     let more = before.0 ++ message ∷ [] in
     let bodies = subst (λ (bs : List (List ℕ)). Rest (length (spelling message)) bs) (sym (map-append spelling before.0 (message ∷ []))) after in
     (more, (fine, subst (λ (n : ℕ). Rest n (map spelling more)) (sym c.encode_size-size.ensures.size) bodies))
+
+pub returns-then-size-ge-TOO_LONG-clause-one_disk : goal.returns-then-size-ge-TOO_LONG-clause-one_disk
+returns-then-size-ge-TOO_LONG-clause-one_disk g c = λ messages k before. rests_either _ _ _ _ _ _ _ _ _ before.1
+
+pub returns-in_default-clause-one_disk : goal.returns-in_default-clause-one_disk
+returns-in_default-clause-one_disk g c = λ messages k before. rests_either _ _ _ _ _ _ _ _ _ before.1

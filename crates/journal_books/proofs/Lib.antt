@@ -1,0 +1,4 @@
+mod Resting
+mod Looking
+mod Weaker
+mod Refusals
