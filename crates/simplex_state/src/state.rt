@@ -57,7 +57,7 @@ impl<S: Scheme<D> + Drop, L: Elector<S, D>, D: Digest> State<S, L, D> {
         alloc: Global,
         scheme: Rc<S>,
         elector: L,
-        config: &Config<D>,
+        config: &Config<S, D>,
     ) -> Result<Self, AllocError>
         requires { L.built_for elector (S.size scheme.value) }
         ensures { IfOk result (λ state. Keeps S.Scheme L.Elector (built S.Scheme L.Elector scheme.value elector config.now) state []) }
