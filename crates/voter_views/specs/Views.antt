@@ -85,8 +85,8 @@ module _ {S D P G C : Type 0} where
   kept_from first floor kept x view = if nat_lt view floor then option_or kept (if nat_lt view first then None else past.nullification x) else kept
 
 module _ {S L D P G C : Type 0} where
-  -- the setup of a voter that was built so
-  abbrev pub built : Ghosts S D P G C → elector.Ghosts L S D P G C → S → L → Config S D P G C → Setup S C
+  -- the setup of a voter that was built so, whatever it starts from
+  abbrev pub built : {F : Type 0} → Ghosts S D P G C → elector.Ghosts L S D P G C → S → L → Config F → Setup S C
   built g e scheme l c = record {
     scheme = scheme;
     me = g.own scheme;
