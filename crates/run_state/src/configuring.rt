@@ -4,11 +4,9 @@ use crate::reading::{abandoned, last_floor};
 use simplex_resolver::{Ask, Kind, Until};
 use simplex_types::PlainScheme;
 use test_words::{Committee, Say, Trouble, Words};
-use types_core::{Epoch, Sha256Digest, ViewDelta};
-use voter_rules::Floor;
-use voter_rules::config::{
-    Config, ConfigFault, ForwardPolicy, SkipBudget, SkipPolicy, check_config, check_floor,
-};
+use types_core::{Sha256Digest, ViewDelta};
+use voter_rules::check_floor;
+use voter_rules::config::{Config, ForwardPolicy, SkipBudget, SkipPolicy, check_config};
 
 /// How many members the committees have whose certificates are read.
 const MEMBERS: u32 = 4;
@@ -85,9 +83,9 @@ fn last_forward(words: &mut Words<'_>) -> Result<ForwardPolicy, Trouble> {
 }
 
 /// `EPOCH K LEADER CERTIFICATION RETRY RETENTION SKIP BUDGET FORWARD TRACK`.
-fn config(words: &mut Words<'_>) -> Result<Config<PlainScheme, Sha256Digest>, Trouble> {
+fn config(words: &mut Words<'_>) -> Result<Config<Sha256Digest>, Trouble> {
     let epoch = words.epoch()?;
-    let floor = Floor::Genesis(words.payload()?);
+    let floor = words.payload()?;
     let leader_timeout = words.number()?;
     let certification_timeout = words.number()?;
     let timeout_retry = words.number()?;
@@ -113,36 +111,16 @@ fn check(words: &mut Words<'_>, say: &mut Say) -> Result<(), Trouble> {
     let participants = words.index()?;
     let config = config(words)?;
     words.end()?;
-    tell_fault(check_config(&config, participants), say)
-}
-
-/// Says `ok`, or the fault's number.
-fn tell_fault(checked: Result<(), ConfigFault>, say: &mut Say) -> Result<(), Trouble> {
-    match checked {
+    match check_config(&config, participants) {
         Ok(()) => say.ok(),
-        Err(fault) => {
-            say.text("fault ")?;
-            say.number(u64::from(fault.number()))
-        }
+        Err(fault) => tell_fault(fault.number(), say),
     }
 }
 
-/// A configuration of this epoch that starts from this floor, and in which nothing else is wrong.
-fn starting_from(
-    epoch: Epoch,
-    floor: Floor<PlainScheme, Sha256Digest>,
-) -> Config<PlainScheme, Sha256Digest> {
-    Config {
-        epoch,
-        floor,
-        leader_timeout: 1,
-        certification_timeout: 2,
-        timeout_retry: 1,
-        view_retention: ViewDelta::new(1),
-        skip: SkipPolicy::Disabled,
-        forward: ForwardPolicy::Disabled,
-        track_historical_votes: false,
-    }
+/// Says the number of a fault.
+fn tell_fault(number: u8, say: &mut Say) -> Result<(), Trouble> {
+    say.text("fault ")?;
+    say.number(u64::from(number))
 }
 
 /// `N EPOCH LENGTH FLOOR`: says the fault of a floor in a committee of so many, of this epoch, in terms of so many views.
@@ -152,8 +130,10 @@ fn check_start(words: &mut Words<'_>, say: &mut Say) -> Result<(), Trouble> {
     let length = words.term_length()?;
     let scheme = PlainScheme::member_of(say.alloc, participants, None, 0)?;
     let floor = last_floor::<PlainScheme>(say.alloc, words, participants)?;
-    let config = starting_from(epoch, floor);
-    tell_fault(check_floor(&config, &scheme, length), say)
+    match check_floor(&floor, epoch, &scheme, length) {
+        Ok(()) => say.ok(),
+        Err(fault) => tell_fault(fault.number(), say),
+    }
 }
 
 /// `backfill`, or `ancestry KIND`, which ends the line.

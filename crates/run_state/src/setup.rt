@@ -9,14 +9,13 @@ use test_words::{Committee, Trouble, Words};
 use types_core::{Epoch, Participant, Scheme, Sha256Digest, ViewDelta};
 use types_terms::Terms;
 use types_terms::elector::Mode;
-use voter_rules::Floor;
 use voter_rules::config::{Config, ForwardPolicy, SkipBudget, SkipPolicy};
 
-/// How a voter is set up, whatever its scheme: `N ME EPOCH L K STALL RETENTION LEADER CERTIFICATION RETRY BUDGET HANDOFF`. ME is `-` for a voter
+/// How a voter is set up: `N ME EPOCH L K STALL RETENTION LEADER CERTIFICATION RETRY BUDGET HANDOFF`. ME is `-` for a voter
 /// without a key, STALL for terms of one view without optimism that never stall. HANDOFF is 1: builds are handed off, and no
 /// voter goes without.
 #[derive(Drop)]
-pub struct Setup<S: Scheme<Sha256Digest>> {
+pub struct Setup {
     /// How many members the committee has.
     pub participants: u32,
     /// The member whose voter it is.
@@ -24,7 +23,7 @@ pub struct Setup<S: Scheme<Sha256Digest>> {
     /// How long terms are, and what they allow.
     pub terms: Terms,
     /// How that voter is set up. What it starts on, and when leaders count as inactive, it doesn't ask of that.
-    pub config: Config<S, Sha256Digest>,
+    pub config: Config<Sha256Digest>,
 }
 
 /// `L K STALL`.
@@ -40,10 +39,7 @@ fn terms(words: &mut Words<'_>) -> Result<Terms, Trouble> {
 }
 
 /// `RETENTION LEADER CERTIFICATION RETRY BUDGET HANDOFF`, in this epoch.
-fn config<S: Scheme<Sha256Digest>>(
-    words: &mut Words<'_>,
-    epoch: Epoch,
-) -> Result<Config<S, Sha256Digest>, Trouble> {
+fn config(words: &mut Words<'_>, epoch: Epoch) -> Result<Config<Sha256Digest>, Trouble> {
     let view_retention = ViewDelta::new(words.number()?);
     let leader_timeout = words.number()?;
     let certification_timeout = words.number()?;
@@ -54,7 +50,7 @@ fn config<S: Scheme<Sha256Digest>>(
     }
     Ok(Config {
         epoch,
-        floor: Floor::Genesis(Sha256Digest::new([0; 32])),
+        floor: Sha256Digest::new([0; 32]),
         leader_timeout,
         certification_timeout,
         timeout_retry,
@@ -68,7 +64,7 @@ fn config<S: Scheme<Sha256Digest>>(
     })
 }
 
-impl<S: Scheme<Sha256Digest>> Setup<S> {
+impl Setup {
     /// The words of a setup, up to who leads.
     fn read(words: &mut Words<'_>) -> Result<Self, Trouble> {
         let participants = words.index()?;

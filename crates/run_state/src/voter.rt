@@ -33,12 +33,7 @@ impl<S: Committee + Scheme<Sha256Digest, PublicKey = PlainKey>, L: Elector<S, Sh
     L,
 > {
     /// A voter of this setup, to which nothing has happened.
-    pub fn new(
-        alloc: Global,
-        setup: &Setup<S>,
-        scheme: Rc<S>,
-        elector: L,
-    ) -> Result<Self, AllocError>
+    pub fn new(alloc: Global, setup: &Setup, scheme: Rc<S>, elector: L) -> Result<Self, AllocError>
         requires { L.built_for elector (S.size scheme.value) }
     {
         Ok(Voter {

@@ -387,14 +387,14 @@ module _ {S D P G C : Type 0} where
   floor_told s (based view ∷ h) = omega (arith, floor_told s h)
   floor_told s (notarized c ∷ h) = floor_next (told s h) (recorded.taken (notarize c.proposal)) (floor s h) (floor s h) (floor_told s h) (omega arith) (λ none. omega arith)
   floor_told s (nullified now c ∷ h) = floor_next (told s h) (recorded.taken (nullify c.round)) (floor s h) (floor s h) (floor_told s h) (omega arith) (λ none. omega arith)
-  floor_told s (finalized now c ∷ h) = by (is_blank s h) refl
+  floor_told s (finalized now c ∷ h) = by (is_blank s h) refl (floor_told s h)
     where
       e : Entry D
       e = recorded.taken (finalize c.proposal)
 
-      by : (b : Bool) → is_blank s h ≡ b → recorded.floor (reverse (e ∷ told s h)) ≤ (if b then max c.proposal.round.view (floor s h) else floor s h)
-      by true is = floor_next (told s h) e (floor s h) (max c.proposal.round.view (floor s h)) (floor_told s h) (omega arith) (λ none. omega arith)
-      by false is = floor_next (told s h) e (floor s h) (floor s h) (floor_told s h) (omega arith) (λ none. absurd (true≢false (sym (blank_told s h none) ∙ is)))
+      by : (b : Bool) → is_blank s h ≡ b → recorded.floor (reverse (told s h)) ≤ floor s h → recorded.floor (reverse (e ∷ told s h)) ≤ (if b then max c.proposal.round.view (floor s h) else floor s h)
+      by true is before = floor_next (told s h) e (floor s h) (max c.proposal.round.view (floor s h)) before (omega arith) (λ none. omega arith)
+      by false is before = floor_next (told s h) e (floor s h) (floor s h) before (omega arith) (λ none. absurd (true≢false (sym (blank_told s h none) ∙ is)))
   floor_told s (judged now view ok ∷ h) = floor_next (told s h) (recorded.judged (round_of s view) ok) (floor s h) (floor s h) (floor_told s h) (omega arith) (λ none. omega arith)
   floor_told s (voted_notarize view p ∷ h) = floor_next (told s h) (recorded.voted (notarize p)) (floor s h) (floor s h) (floor_told s h) (omega arith) (λ none. omega arith)
   floor_told s (voted_nullify view ∷ h) = by (past.has_nullified (seen s h view)) (floor_told s h)

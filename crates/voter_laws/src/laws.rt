@@ -26,9 +26,9 @@ pub fn what_is_due_stands_on_ground<D: Digest>()
 {}
 
 /// That a view is given up for a reason changes nothing of what is known, so nothing else that is due; nor
-/// does a look at the next timeout, a certificate that is handed out, or a nullify that is voted once more;
-/// and that the record begins behind a view changes that alone. Of who leads nothing more is to be learnt: whoever leads a view leads the next one too, where that
-/// inherits.
+/// does a look at the next timeout, a certificate that is handed out, or a nullify that is voted once more; and
+/// that the record begins behind a view changes that alone. Of who leads nothing more is to be learnt: whoever
+/// leads a view leads the next one too, where that inherits.
 pub fn a_latch_changes_nothing_due<S: Scheme<D>, D: Digest>()
     ensures latch { LatchChangesNothing S D S.PublicKey S.Signature S.Certificate }
     ensures poll { PollChangesNothing S D S.PublicKey S.Signature S.Certificate }

@@ -1,13 +1,11 @@
-//! How a member is set up and what it starts from, and what can be wrong with that.
+//! How a member is set up, and what can be wrong with that.
 
 ghost use Rattle.std.specs.Prelude.{◌≡◌, ◌≢◌, ◌↔◌, IfErr, IsTrue, OnOk};
 ghost use Rattle.voter_rules.specs.declared.config.ConfigFault.{ConfigFault};
 ghost use Rattle.voter_rules.specs.declared.config.ForwardPolicy.TheVariants.{Disabled};
-ghost use Rattle.voter_rules.specs.Configuring.{Applies, AppliesToFinal, AppliesToFloor, IsFirst, IsFirstOf, SkipsWithin, budget_of, fault_number, skip_budget};
+ghost use Rattle.voter_rules.specs.Configuring.{Applies, IsFirst, SkipsWithin, budget_of, fault_number, skip_budget};
 
-use crate::floor::Floor;
-use messages_certificates::Finalization;
-use types_core::{Digest, Epoch, Epochable, Scheme, TermLength, ViewDelta, Viewable};
+use types_core::{Epoch, ViewDelta};
 
 /// How many terms may be skipped since the last finalized view.
 #[derive(Clone, Copy, Debug, Default)]
@@ -90,13 +88,14 @@ impl ForwardPolicy {
     }
 }
 
-/// How a member is set up. Durations are whole milliseconds.
+/// How a member is set up. What it starts from may be a payload of view 0, or a [`Floor`](crate::Floor). Durations are whole
+/// milliseconds.
 #[derive(Drop)]
-pub struct Config<S: Scheme<D>, D: Digest> {
+pub struct Config<F> {
     /// The epoch that all its messages are of.
     pub epoch: Epoch,
     /// What it starts from.
-    pub floor: Floor<S, D>,
+    pub floor: F,
     /// How long a leader has for a proposal: above 0.
     pub leader_timeout: u64,
     /// How long a view has for a true verdict: longer than for a proposal.
@@ -132,16 +131,6 @@ pub enum ConfigFault {
     RetentionZero,
     /// There are more than 65,535 participants.
     TooManyParticipants,
-    /// The finalization that it starts from is of another epoch.
-    FloorWrongEpoch,
-    /// That finalization is of view 0.
-    FloorViewZero,
-    /// It is of a view without room.
-    FloorNoRoom,
-    /// The parent of its proposal doesn't lie below its view.
-    FloorParentNotBelow,
-    /// It doesn't certify.
-    FloorNotVerifying,
 }
 
 impl ConfigFault {
@@ -158,25 +147,17 @@ impl ConfigFault {
             ConfigFault::RetryZero => 6,
             ConfigFault::RetentionZero => 7,
             ConfigFault::TooManyParticipants => 8,
-            ConfigFault::FloorWrongEpoch => 9,
-            ConfigFault::FloorViewZero => 10,
-            ConfigFault::FloorNoRoom => 11,
-            ConfigFault::FloorParentNotBelow => 12,
-            ConfigFault::FloorNotVerifying => 13,
         }
     }
 }
 
-/// The first fault of this configuration in a committee of so many, if there is one: what is wrong with what the member starts
-/// from [`check_floor`] tells.
+/// The first fault of this configuration in a committee of so many, if there is one. What is wrong with a floor that it starts
+/// from [`check_floor`](crate::check_floor) tells.
 ///
 /// # Errors
 ///
 /// That fault.
-pub fn check_config<S: Scheme<D>, D: Digest>(
-    config: &Config<S, D>,
-    participants: u32,
-) -> Result<(), ConfigFault>
+pub fn check_config<F>(config: &Config<F>, participants: u32) -> Result<(), ConfigFault>
     ensures first { IfErr result (λ fault. IsFirst config.now participants fault) }
     ensures good { OnOk result ((fault : ConfigFault) → ¬ Applies config.now participants fault) }
 {
@@ -203,57 +184,6 @@ pub fn check_config<S: Scheme<D>, D: Digest>(
     }
     if participants > 65_535 {
         return Err(ConfigFault::TooManyParticipants);
-    }
-    Ok(())
-}
-
-/// The first fault of what the member starts from, if there is one: by this scheme, where terms have so many views. The payload
-/// of view 0 has none.
-///
-/// # Errors
-///
-/// That fault.
-pub fn check_floor<S: Scheme<D>, D: Digest>(
-    config: &Config<S, D>,
-    scheme: &S,
-    length: TermLength,
-) -> Result<(), ConfigFault>
-    ensures first { IfErr result (λ fault. IsFirstOf (AppliesToFloor (S.certifies scheme.now) length config.now.epoch config.now.floor) fault) }
-    ensures good { OnOk result ((fault : ConfigFault) → ¬ AppliesToFloor (S.certifies scheme.now) length config.now.epoch config.now.floor fault) }
-{
-    match &config.floor {
-        Floor::Genesis(_) => Ok(()),
-        Floor::Finalized(finalization) => {
-            check_finalization(finalization, config.epoch, scheme, length)
-        }
-    }
-}
-
-/// The first fault of the finalization that a member of this epoch starts from, if there is one.
-fn check_finalization<S: Scheme<D>, D: Digest>(
-    finalization: &Finalization<S, D>,
-    epoch: Epoch,
-    scheme: &S,
-    length: TermLength,
-) -> Result<(), ConfigFault>
-    ensures first { IfErr result (λ fault. IsFirstOf (AppliesToFinal (S.certifies scheme.now) length epoch finalization.now) fault) }
-    ensures good { OnOk result ((fault : ConfigFault) → ¬ AppliesToFinal (S.certifies scheme.now) length epoch finalization.now fault) }
-{
-    let view = finalization.view();
-    if finalization.epoch() != epoch {
-        return Err(ConfigFault::FloorWrongEpoch);
-    }
-    if view.is_zero() {
-        return Err(ConfigFault::FloorViewZero);
-    }
-    if !view.has_room(length) {
-        return Err(ConfigFault::FloorNoRoom);
-    }
-    if finalization.proposal.parent >= view {
-        return Err(ConfigFault::FloorParentNotBelow);
-    }
-    if !finalization.verify(scheme) {
-        return Err(ConfigFault::FloorNotVerifying);
     }
     Ok(())
 }

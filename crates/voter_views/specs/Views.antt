@@ -84,9 +84,9 @@ module _ {S D P G C : Type 0} where
   abbrev pub kept_from : ℕ → ℕ → Option (Nullification S D P G C) → List (Item S D P G C) → ℕ → Option (Nullification S D P G C)
   kept_from first floor kept x view = if nat_lt view floor then option_or kept (if nat_lt view first then None else past.nullification x) else kept
 
-module _ {S L D P G C F : Type 0} where
-  -- the setup of a voter that was built so, whatever its member starts from
-  abbrev pub built : Ghosts S D P G C → elector.Ghosts L S D P G C → S → L → Config F → Setup S C
+module _ {S L D P G C : Type 0} where
+  -- the setup of a voter that was built so, whatever it starts from
+  abbrev pub built : {F : Type 0} → Ghosts S D P G C → elector.Ghosts L S D P G C → S → L → Config F → Setup S C
   built g e scheme l c = record {
     scheme = scheme;
     me = g.own scheme;
@@ -103,7 +103,6 @@ module _ {S L D P G C F : Type 0} where
     skip_budget = skip_budget c.skip (g.size scheme);
   }
 
-module _ {S L D P G C : Type 0} where
   pub record IsKept (g : Ghosts S D P G C) (e : elector.Ghosts L S D P G C) (s : Setup S C) (v : Views S L D P G C) (h : List (Point S D P G C)) : Type 0 where
     pub scheme : v.scheme.value ≡ s.scheme
     pub me : g.own s.scheme ≡ s.me
