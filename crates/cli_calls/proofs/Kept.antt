@@ -19,3 +19,8 @@ if_kept kept x P is holds = subst (λ o. IfSome o P) (sym is) holds
 
 pub if_none : {A : Type 0} (kept : Option A) (P : A → Type 0) → kept ≡ None → IfSome kept P
 if_none kept P is = subst (λ o. IfSome o P) (sym is) tt
+
+-- and what follows of it
+pub if_so : {A : Type 0} (kept : Option A) (P Q : A → Type 0) → ((x : A) → P x → Q x) → IfSome kept P → IfSome kept Q
+if_so None P Q turn holds = tt
+if_so (Some x) P Q turn holds = turn x holds

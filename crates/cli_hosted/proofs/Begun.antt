@@ -1,0 +1,71 @@
+-- What is held behind an opening is what was opened.
+use Rattle.std.proofs.Common.{◌≡◌, ◌≢◌, ◌++◌, ◌∙◌, ap, subst, refl, ℕ, List, [], Option, None, Some}
+use Rattle.std.specs.Prelude.{Result, Ok, Err, IfOk, IfErr}
+use Rattle.types_core.specs.declared.scheme.Scheme.{Ghosts}
+use Rattle.messages_certificates.specs.declared.artifact.Artifact.{Artifact}
+use Rattle.types_terms.specs.Rotation.{Rotation}
+use Rattle.types_terms.specs.declared.elector.Elector as elector
+use Rattle.simplex_types.specs.Plain as plain
+use Rattle.journal_single.specs.declared.disk.Disk as disk
+use Rattle.journal_books.specs.declared.disks.Disks.TheVariants.{One}
+use Rattle.simplex_member.specs.declared.fault.OpenFault.{OpenFault}
+use Rattle.simplex_member.specs.Packet.{Formats}
+use Rattle.simplex_member.specs.Setup.{Setup}
+use Rattle.node_steps.specs.declared.node.Node.{Node}
+use Rattle.node_steps.specs.Opening.{IsOpenAndSettled}
+use Rattle.cli_settings.specs.declared.setting.Committee.{Committee}
+use Rattle.cli_settings.specs.Building.{AreLeaders}
+use Rattle.cli_hosted.specs.declared.status.Status.{Status}
+use Rattle.cli_hosted.specs.declared.status.Status.TheVariants.{Done}
+use Rattle.cli_hosted.specs.HostedDisk.{HostedState}
+use Rattle.cli_hosted.specs.Hosting.{IsBegun, over}
+use Rattle.cli_hosted.specs.Sessions.{Listed, PlainReply, SessionState}
+
+abbrev Hosted : Type 0
+Hosted = Node plain.Committee Rotation (List ℕ) HostedState ℕ (List ℕ) Listed
+
+-- what holds of a session that was opened holds of the node that is held behind an answer that tells so
+pub done_by : {B : Type 0} (opening : Result B OpenFault) (value : B → SessionState) (held : Option SessionState) (answer : Status) (Q : SessionState → Type 0)
+    → IfOk opening (λ b. held ≡ Some (value b)) → IfErr opening (λ why. answer ≢ Done) → IfOk opening (λ b. Q (value b)) → answer ≡ Done
+    → (state : SessionState) × (held ≡ Some state) × Q state
+done_by (Ok b) value held answer Q holds never q is = (value b, holds, q)
+done_by (Err why) value held answer Q holds never q is = absurd (never is)
+
+module _ (g : Ghosts plain.Committee (List ℕ) ℕ (List ℕ) Listed) (e : elector.Ghosts Rotation plain.Committee (List ℕ) ℕ (List ℕ) Listed) (k : disk.Ghosts HostedState)
+    (formats : ℕ → Formats plain.Committee (List ℕ) ℕ (List ℕ) Listed) (w : PlainReply → List ℕ)
+    (Readable : Artifact plain.Committee (List ℕ) ℕ (List ℕ) Listed → Type 0) (stored : List ℕ) (on : HostedState) (fresh : on ≡ over stored) where
+  -- so the session was begun that has the node, and whose replies are the first alone
+  pub begun_of : {B : Type 0} (session : Result B OpenFault) (value : B → SessionState) (s : Setup plain.Committee (List ℕ) Listed) (opened : Result Hosted OpenFault) (before after : List ℕ)
+      → before ≡ []
+      → IfOk opened (λ node. (first : PlainReply) × (first.refused ≡ None) × (after ≡ before ++ w first)
+        × IsOpenAndSettled g e k (formats (g.size s.voter.scheme)) s Readable (One on) 0 node first.actions.items)
+      → IfOk session (λ b. (opened ≡ Ok (value b).node) × ((value b).replies ≡ after))
+      → IfOk session (λ b. IsBegun g e k formats w Readable s stored (value b))
+  begun_of (Err why) value s opened before after none opens has = has
+  begun_of (Ok b) value s opened before after none opens (is, same) =
+      let there = subst (λ (o : Result Hosted OpenFault). IfOk o (λ node. (first : PlainReply) × (first.refused ≡ None) × (after ≡ before ++ w first)
+        × IsOpenAndSettled g e k (formats (g.size s.voter.scheme)) s Readable (One on) 0 node first.actions.items)) is opens in
+      record {
+        first = there.0;
+        refused = there.1;
+        replied = same ∙ (there.2 ∙ ap (λ (xs : List ℕ). xs ++ w there.0) none);
+        opens = subst (λ (d : HostedState). IsOpenAndSettled g e k (formats (g.size s.voter.scheme)) s Readable (One d) 0 (value b).node there.0.actions.items) fresh there.3;
+      }
+
+  -- the same by leaders of a committee
+  pub begun_by_of : {B : Type 0} (session : Result B OpenFault) (value : B → SessionState) (c : Committee) (s : Rotation → Setup plain.Committee (List ℕ) Listed) (opened : Result Hosted OpenFault)
+      (before after : List ℕ) → before ≡ []
+      → IfOk opened (λ node. (leaders : Rotation) × (first : PlainReply) × AreLeaders c leaders × (first.refused ≡ None) × (after ≡ before ++ w first)
+        × IsOpenAndSettled g e k (formats (g.size (s leaders).voter.scheme)) (s leaders) Readable (One on) 0 node first.actions.items)
+      → IfOk session (λ b. (opened ≡ Ok (value b).node) × ((value b).replies ≡ after))
+      → IfOk session (λ b. (leaders : Rotation) × AreLeaders c leaders × IsBegun g e k formats w Readable (s leaders) stored (value b))
+  begun_by_of (Err why) value c s opened before after none opens has = has
+  begun_by_of (Ok b) value c s opened before after none opens (is, same) =
+      let there = subst (λ (o : Result Hosted OpenFault). IfOk o (λ node. (leaders : Rotation) × (first : PlainReply) × AreLeaders c leaders × (first.refused ≡ None) × (after ≡ before ++ w first)
+        × IsOpenAndSettled g e k (formats (g.size (s leaders).voter.scheme)) (s leaders) Readable (One on) 0 node first.actions.items)) is opens in
+      (there.0, there.2, record {
+        first = there.1;
+        refused = there.3;
+        replied = same ∙ (there.4 ∙ ap (λ (xs : List ℕ). xs ++ w there.1) none);
+        opens = subst (λ (d : HostedState). IsOpenAndSettled g e k (formats (g.size (s there.0).voter.scheme)) (s there.0) Readable (One d) 0 (value b).node there.1.actions.items) fresh there.5;
+      })
