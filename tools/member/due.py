@@ -1,6 +1,7 @@
 """Which votes of a member are due, when its current view is given up, and what it is to ask for."""
 from .history import kept, latest
 from .positions import is_retained
+from .record import floor_of, record
 from .values import NOTARIZATION, NULLIFICATION
 from .voter import (
     INACTIVITY, at, current, explicit, find_parent, first_uncovered, is_captured, is_in_window, is_invalid_parent, is_span, is_steady,
@@ -18,14 +19,15 @@ def may_speak_of(h, view):
 
 
 def notarize_is_due(h, view):
-    """The view is kept and may be spoken of; neither notarize nor nullify was voted; the held proposal is verified; inside the
-    window the view before has an optimistic payload; what the proposal is bound to hasn't fallen."""
+    """The view is kept, lies behind the record's floor and may be spoken of; neither notarize nor nullify was voted; the held
+    proposal is verified; inside the window the view before has an optimistic payload; what the proposal is bound to hasn't fallen."""
     told = at(h, view)
     return (
         told.is_verified
         and not told.has_notarized
         and not told.has_nullified
         and is_retained(last_finalized(h), h.setup.retention, view)
+        and floor_of(record(h)) < view
         and may_speak_of(h, view)
         and (not is_in_window(h, view) or optimistic(h, view - 1) is not None)
         and is_steady(h, view)

@@ -77,6 +77,11 @@ def finalizes(artifact):
     return artifact.view if isinstance(artifact, Certificate) and artifact.kind == FINALIZATION else 0
 
 
+def floor_of(artifacts):
+    """The view that a record begins behind: that of its first artifact, where it is a finalization, or 0."""
+    return finalizes(artifacts[0]) if artifacts else 0
+
+
 class Record:
     """Artifacts in order, and which may stand behind them."""
 
@@ -109,9 +114,11 @@ class Record:
         return True
 
     def may_notarize(self, p):
-        """An own notarize: the first of its view, which wasn't given up; each view between its parent and it is covered."""
+        """An own notarize: behind the floor, the first of its view, which wasn't given up; each view between its parent and it is
+        covered, but for those up to the floor."""
+        low = floor_of(self.artifacts)
         first = not self.of(NOTARIZE, p.view) and not self.of(NULLIFY, p.view)
-        return first and p.parent < p.view and self.covers_between(p.parent, p.view)
+        return low < p.view and first and p.parent < p.view and self.covers_between(max(p.parent, low), p.view)
 
     def may_nullify(self, view):
         """An own nullify: of the current view, the first there, and no finalize of it."""

@@ -18,8 +18,17 @@ from member.view import View
 
 @value
 class Started:
+    """Without a payload where view 0 has none."""
+
     now: int
-    payload: bytes
+    payload: bytes | None
+
+
+@value
+class Based:
+    """The member's record begins behind this view."""
+
+    view: int
 
 
 @value
@@ -126,6 +135,31 @@ def last_finalized(view, here):
         case Took(_, certificate) if certificate.kind == FINALIZATION:
             return max(view, certificate.view)
     return view
+
+
+@over((0, True))
+def beginning(known, here):
+    """The view that the member's record begins behind, and whether it has nothing yet: that of its first entry where it is a
+    finalization, or the highest that was named since."""
+    view, is_blank = known
+    match here.point:
+        case Based(named):
+            return max(view, named), is_blank
+        case Took(_, certificate):
+            is_floor = is_blank and certificate.kind == FINALIZATION
+            return max(view, certificate.view) if is_floor else view, False
+        case Judged():
+            return view, False
+        case Recalled(Vote(), _):
+            return view, False
+        case Saw(_, items) if any(isinstance(item, of_view.Voted) for item in items):
+            return view, False
+    return known
+
+
+def base(h):
+    """The view that the member's record begins behind."""
+    return beginning(h)[0]
 
 
 def floor(h):

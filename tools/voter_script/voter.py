@@ -4,7 +4,7 @@ from member.positions import is_retained
 from member.values import FINALIZATION, FINALIZE, NOTARIZATION, NOTARIZE, NULLIFICATION, NULLIFY, Proposal, Round, Verdict
 
 from voter_script.history import (
-    BuiltAt, Judged, Looked, Pruned, Recalled, Saw, Sent, Started, Took, at, behind, current, entered_at, floor, has_sent,
+    Based, BuiltAt, Judged, Looked, Pruned, Recalled, Saw, Sent, Started, Took, at, base, behind, current, entered_at, floor, has_sent,
     is_tracked, latch, last_finalized, leaders, next_timeout, nothing, nullifications, started_at, views,
 )
 
@@ -80,6 +80,15 @@ class Voter:
 
     def set_genesis(self, now, payload):
         self.happens(Started(now, payload))
+
+    def begin(self, now):
+        self.happens(Started(now, None))
+
+    def base(self, view):
+        self.happens(Based(view))
+
+    def floor(self):
+        return base(self.h)
 
     def set_floor(self, now, start):
         """Starts on a payload, or on a finalization, which is handed out."""
@@ -257,7 +266,7 @@ class Voter:
         return self.setup.scheme.sign(kind, proposal, self.setup.me)
 
     def construct_notarize(self, view):
-        return self._vote(NOTARIZE, view, due.notarize_is_due(self.h, view))
+        return self._vote(NOTARIZE, view, base(self.h) < view and due.notarize_is_due(self.h, view))
 
     def construct_finalize(self, view):
         return self._vote(FINALIZE, view, due.finalize_is_due(self.h, view))
@@ -272,7 +281,7 @@ class Voter:
         return told.has_nullified, self.setup.scheme.sign(NULLIFY, Round(self.setup.epoch, view), self.setup.me)
 
     def next_notarize(self):
-        return next((it.view for it in due.due_notarizes(self.h)), None)
+        return next((it.view for it in due.due_notarizes(self.h) if base(self.h) < it.view), None)
 
     def next_finalize(self):
         return next((it.view for it in due.due_finalizes(self.h)), None)

@@ -79,6 +79,7 @@ READ = {
     **dict.fromkeys("add_nullification add_finalization".split(), "number taken"),
     "add_notarization": "taken",
     "parent_certified": "number payload",
+    **dict.fromkeys("begin base".split(), "number"),
     "set_genesis": "number payload",
     "set_floor": "number start",
     "certified": "number number truth",
@@ -86,7 +87,7 @@ READ = {
     "replay": "artifact",
     "proposed": "number context payload",
     **dict.fromkeys("epoch current_view last_finalized min_active get_best_certificate prune try_propose "
-                    "certify_candidates next_notarize next_finalize counts_silence genesis".split(), ""),
+                    "certify_candidates next_notarize next_finalize counts_silence genesis floor".split(), ""),
 }
 
 
@@ -141,7 +142,10 @@ def said(it):
     return str(it)
 
 
-DONE = ("set_genesis", "replay", "release_proposal_request", "set_certify_handle", "trigger_timeout", "verification_failed")
+DONE = (
+    "set_genesis", "begin", "base", "replay", "release_proposal_request", "set_certify_handle", "trigger_timeout",
+    "verification_failed",
+)
 
 
 def say(voter, name, it):

@@ -13,7 +13,7 @@ use Rattle.cli_settings.specs.declared.setting.Turns.{Turns}
 abbrev pub config_of : Settings → Config (List ℕ)
 config_of s = record {
   epoch = s.committee.epoch;
-  genesis = s.committee.genesis;
+  floor = s.committee.genesis;
   leader_timeout = s.conduct.leader_timeout;
   certification_timeout = s.conduct.certification_timeout;
   timeout_retry = s.conduct.timeout_retry;

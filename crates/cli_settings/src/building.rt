@@ -83,7 +83,7 @@ impl Settings {
         let conduct = self.conduct;
         Config {
             epoch: self.committee.epoch,
-            genesis: self.committee.genesis,
+            floor: self.committee.genesis,
             leader_timeout: conduct.leader_timeout,
             certification_timeout: conduct.certification_timeout,
             timeout_retry: conduct.timeout_retry,

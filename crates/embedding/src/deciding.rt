@@ -25,7 +25,7 @@ pub(crate) fn begun(
     )?;
     let config = Config {
         epoch: Epoch::new(0),
-        genesis,
+        floor: genesis,
         leader_timeout: 1000,
         certification_timeout: 2000,
         timeout_retry: 5000,
@@ -38,7 +38,7 @@ pub(crate) fn begun(
         track_historical_votes: false,
     };
     let mut voter = State::new(alloc, scheme, elector, &config)?;
-    voter.set_genesis(now, config.genesis)?;
+    voter.set_genesis(now, config.floor)?;
     Ok(voter)
 }
 

@@ -376,11 +376,11 @@ module _ {S D P G C : Type 0} (g : Ghosts S D P G C) (f : Formats S D P G C) (x 
       agrees = subst (λ (o : Option (Proposal D)). Agrees o (proposal_on (context_of n) (x.payload (n + 1)))) (sym vacant) tt;
     }
 
-    notarize-due : explicit m k n ≡ Some (x.payload n) → k.current ≡ n + 1 → k.last_finalized ≤ n → k.has_notarized (n + 1) ≡ false → k.has_nullified (n + 1) ≡ false → k.leader (n + 1) ≡ Some 0
+    notarize-due : explicit m k n ≡ Some (x.payload n) → k.current ≡ n + 1 → k.last_finalized ≤ n → k.floor ≤ n → k.has_notarized (n + 1) ≡ false → k.has_nullified (n + 1) ≡ false → k.leader (n + 1) ≡ Some 0
         → IsVerified (k.offers (n + 1)) → held_at m k (n + 1) ≡ Some (proposal_of n) → k.binding (n + 1) ≡ Some (proposal_of n, x.payload n) → NotarizeIsDue m k (n + 1)
-    notarize-due there now final first kept leads sure held_is bound = record {
+    notarize-due there now final floored first kept leads sure held_is bound = record {
       kept = (omega arith, omega (arith, final));
-      behind = omega arith;
+      behind = omega (arith, floored);
       room = room;
       outbound = inl (omega (arith, now));
       first = first;
@@ -667,6 +667,9 @@ module _ {S D P G C : Type 0} (g : Ghosts S D P G C) (f : Formats S D P G C) (x 
   one-two : 1 < 2
   one-two = omega arith
 
+  none-two : 0 < 2
+  none-two = omega arith
+
   untainted : (p : Proposal D) (rest : Type 0) → (rest → ⊥) → (rest ⊎ (p ≢ p)) → ⊥
   untainted p rest none tainted = ⊎_elim (λ before. none before) (λ differs. differs refl) tainted
 
@@ -676,11 +679,12 @@ module _ {S D P G C : Type 0} (g : Ghosts S D P G C) (f : Formats S D P G C) (x 
     (
       record {
         order = refl;
-        due = (notarize-due (built 0 h1) 0 starts-first room-first refl refl (at-last 0) refl refl refl (refl, tt, λ tainted. tainted) refl refl, refl);
+        due = (notarize-due (built 0 h1) 0 starts-first room-first refl refl (at-last 0) (at-last 0) refl refl refl (refl, tt, λ tainted. tainted) refl refl, refl);
         fits = record {
           verifies = record { own = refl; epoch = refl; verifies = lone.agrees 0 };
           follows = record {
             room = room-first;
+            behind = at-last 1;
             first = no-vote [] (notarize (proposal_of 0)) tt;
             not_given_up = no-vote [] (nullify (round_of 1)) tt;
             parent_below = omega arith;
@@ -719,11 +723,12 @@ module _ {S D P G C : Type 0} (g : Ghosts S D P G C) (f : Formats S D P G C) (x 
     (
       record {
         order = refl;
-        due = (notarize-due (built 1 h3) 1 starts-second room-second refl refl (at-last 1) refl refl refl (refl, tt, λ tainted. tainted) refl refl, refl);
+        due = (notarize-due (built 1 h3) 1 starts-second room-second refl refl (at-last 1) (le-up-to 1) refl refl refl (refl, tt, λ tainted. tainted) refl refl, refl);
         fits = record {
           verifies = record { own = refl; epoch = refl; verifies = lone.agrees 1 };
           follows = record {
             room = room-second;
+            behind = none-two;
             first = no-vote (entries (record_of h3)) (notarize (proposal_of 1)) (later 1 2 one-two, (tt, (tt, (λ alike. alike, (tt, tt)))));
             not_given_up = no-vote (entries (record_of h3)) (nullify (round_of 2)) (λ alike. alike, (tt, (tt, (λ alike. alike, (tt, tt)))));
             parent_below = omega arith;

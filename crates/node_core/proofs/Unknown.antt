@@ -11,7 +11,7 @@ use Rattle.messages_certificates.specs.Certificate.{certificate_statement}
 use Rattle.simplex_record.specs.Record.{Entry, entries}
 use Rattle.voter_history.specs.Past as past
 use Rattle.voter_history.specs.History as views
-use Rattle.voter_history.specs.History.{started, notarized, nullified, finalized, judged, forwarded, built, confirmed, unbound, latched, build_asked, build_released, verify_asked, ancestry_asked, certify_asked, certify_waited, voted_notarize, voted_nullify, voted_finalize, recalled_notarize, recalled_nullify, recalled_finalize, recalled_verdict, sent, polled, pruned, nullification, was_nullified, seen}
+use Rattle.voter_history.specs.History.{started, based, notarized, nullified, finalized, judged, forwarded, built, confirmed, unbound, latched, build_asked, build_released, verify_asked, ancestry_asked, certify_asked, certify_waited, voted_notarize, voted_nullify, voted_finalize, recalled_notarize, recalled_nullify, recalled_finalize, recalled_verdict, sent, polled, pruned, nullification, was_nullified, seen}
 use Rattle.voter_laws.specs.Matching.{EachHistoryMatches, Matches}
 use Rattle.voter_laws.specs.Recording.{EachRecordIsKnown, IsKnown}
 use Rattle.simplex_member.specs.Allowed.{AreAllowed}
@@ -48,6 +48,7 @@ module _ {S D P G C : Type 0} where
   pub none_kept : (s : views.Setup S C) (h : List (views.Point S D P G C)) (view : ℕ) → was_nullified h view ≡ false → nullification s h view ≡ None
   none_kept s [] view is = refl
   none_kept s (started now payload ∷ h) view is = none_kept s h view is
+  none_kept s (based floor ∷ h) view is = none_kept s h view is
   none_kept s (notarized c ∷ h) view is = none_kept s h view is
   none_kept s (nullified now c ∷ h) view is = given_once (c.round.view == view) (was_nullified h view) (nullification s h view) _ is (λ before. none_kept s h view before)
   none_kept s (finalized now c ∷ h) view is = none_kept s h view is

@@ -61,7 +61,7 @@ impl<S: Scheme<D> + Drop, L: Elector<S, D>, D: Digest> Layers<S, L, D> {
             → HasBegun S.Scheme L.Elector (⟦<S as Speaks<D>>⟧.formats n) s now found r.0 r.1.items) }
     {
         let mut layers = Layers::set_up(settings, config, elector, now)?;
-        match layers.replay(settings.alloc, now, config.genesis, recorded) {
+        match layers.replay(settings.alloc, now, config.floor, recorded) {
             Ok(out) => Ok((layers, out)),
             Err(error) => Err(error),
         }

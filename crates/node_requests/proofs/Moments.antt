@@ -17,7 +17,7 @@ use Rattle.voter_history.specs.Past as past
 use Rattle.voter_history.specs.Past.{Item}
 use Rattle.voter_history.specs.Pasts.{put}
 use Rattle.voter_history.specs.History as voted
-use Rattle.voter_history.specs.History.{started, notarized, nullified, finalized, judged, forwarded, built, confirmed, unbound, latched, build_asked, build_released, verify_asked, ancestry_asked, certify_asked, certify_waited, voted_notarize, voted_nullify, voted_finalize, recalled_notarize, recalled_nullify, recalled_finalize, recalled_verdict, sent, polled, pruned, enter, sent_item, undecided_payload, current, last_finalized, min_active, seen}
+use Rattle.voter_history.specs.History.{started, based, notarized, nullified, finalized, judged, forwarded, built, confirmed, unbound, latched, build_asked, build_released, verify_asked, ancestry_asked, certify_asked, certify_waited, voted_notarize, voted_nullify, voted_finalize, recalled_notarize, recalled_nullify, recalled_finalize, recalled_verdict, sent, polled, pruned, enter, sent_item, undecided_payload, current, last_finalized, min_active, seen}
 use Rattle.voter_laws.specs.Steps.{bind_holds, choose_holds, enter_holds, put_holds}
 use Rattle.simplex_member.specs.Allowed.{Allowed, AreAllowed}
 use Rattle.simplex_member.specs.Layers.{current_of, latest, takes_certificate, voter_of, voter_points}
@@ -85,6 +85,7 @@ module _ {S D P G C : Type 0} where
     -- such a point leaves each view settled
     still_settled : (x : voted.Point S D P G C) (v : List (voted.Point S D P G C)) → IsTimely m cur x → IsSettled m cur view (seen s v view) → IsSettled m cur view (seen s (x ∷ v) view)
     still_settled (started now payload) v timely is = enter_settled now 1 v (seen s v) is
+    still_settled (based floor) v timely is = is
     still_settled (notarized c) v timely is = put_settled c.proposal.round.view (past.notarized c) (seen s v) (λ here before. before) is
     still_settled (nullified now c) v timely is =
         put_settled c.round.view (past.nullified c) (enter s (current s v) now (next_term_start s.length c.round.view) (seen s v)) (λ here before. before)

@@ -137,7 +137,7 @@ module _ {S D P G C : Type 0} where
   asked_known s h at token = λ i. record {
     current = views.current s h;
     last_finalized = views.last_finalized h;
-    floor = views.floor h;
+    floor = views.floor s h;
     genesis = views.genesis h;
     leader = leader s (certify_asked at token ∷ h);
     offers = λ u. by (λ l. past.offers l) u (λ l. refl) i;

@@ -1,24 +1,62 @@
 //! The record of a member, whatever its scheme: at one of them the calls would cost the prover several times as much.
 
-use messages_certificates::Artifact;
-use simplex_record::{Owner, Standing, check, first_refused};
-use std::alloc::Global;
+use messages_certificates::{Artifact, Finalization};
+use simplex_record::{Owner, Standing, check, first_refused, rewritten};
+use std::alloc::{AllocError, Global};
 use test_messages::CertificateWords;
 use test_words::{Committee, Say, Trouble, Words};
-use types_core::{Sha256Digest, Viewable};
+use types_core::{Duplicate, Sha256Digest, TermLength, View, Viewable};
 use types_terms::Kind;
 
 /// An artifact of a member.
 type Item<S> = Artifact<S, Sha256Digest>;
 
-/// A list of artifacts, and what is kept of those that were added.
+/// A list of artifacts, those that were added, and what is kept of these.
 #[derive(Drop)]
 pub(crate) struct Record<S: Committee> {
     members: u32,
     scheme: S,
     owner: Owner,
     artifacts: Vec<Item<S>>,
+    added: Vec<Item<S>>,
     standing: Standing<Sha256Digest>,
+}
+
+/// Equal artifacts.
+fn copies<S: Committee>(alloc: Global, artifacts: &[Item<S>]) -> Result<Vec<Item<S>>, AllocError> {
+    let mut equal = Vec::new(alloc);
+    for item in artifacts {
+        equal.push(item.duplicate(alloc)?)?;
+    }
+    Ok(equal)
+}
+
+/// What is kept of these, each added behind the ones before it.
+fn standing_of<S: Committee>(
+    alloc: Global,
+    length: TermLength,
+    artifacts: &[Item<S>],
+) -> Result<Standing<Sha256Digest>, AllocError> {
+    let mut standing = Standing::new(alloc);
+    for item in artifacts {
+        standing.add(length, item)?;
+    }
+    Ok(standing)
+}
+
+/// The finalization of the last finalized view, if there is one.
+fn last_final<S: Committee>(artifacts: &[Item<S>]) -> Option<&Finalization<S, Sha256Digest>> {
+    let mut last = None;
+    let mut view = View::zero();
+    for item in artifacts {
+        if let Artifact::Finalization(certificate) = item
+            && certificate.view() > view
+        {
+            view = certificate.view();
+            last = Some(certificate);
+        }
+    }
+    last
 }
 
 impl<S: Committee> Record<S> {
@@ -38,6 +76,7 @@ impl<S: Committee> Record<S> {
                 signer,
             },
             artifacts: Vec::new(alloc),
+            added: Vec::new(alloc),
             standing: Standing::new(alloc),
         })
     }
@@ -87,6 +126,9 @@ impl<S: Committee> Record<S> {
             return Err(Trouble::Condition);
         }
         let taken = self.standing.add(length, &item)?;
+        if taken {
+            self.added.push(item)?;
+        }
         say.truth(taken)
     }
 
@@ -96,6 +138,7 @@ impl<S: Committee> Record<S> {
         match check(say.alloc, &self.scheme, self.owner, &self.artifacts)? {
             Ok(standing) => {
                 self.standing = standing;
+                self.added = copies(say.alloc, &self.artifacts)?;
                 say.none()
             }
             Err(position) => say.number(position as u64),
@@ -134,6 +177,57 @@ impl<S: Committee> Record<S> {
         }
     }
 
+    /// What a rewrite leaves of those that were added, where it drops any.
+    fn left(&self, alloc: Global) -> Result<Option<Vec<Item<S>>>, Trouble> {
+        let Some(last) = last_final(&self.added) else {
+            return Ok(None);
+        };
+        if last.view() == self.standing.floor() {
+            return Ok(None);
+        }
+        let left = rewritten(alloc, self.owner.term_length, last, &self.added)?;
+        Ok(Some(left))
+    }
+
+    /// `rewrite`: the list becomes what a rewrite leaves of those that were added, and that is then what was added; says the view
+    /// that it begins behind and how many are left, or `-` where none is dropped.
+    fn rewrite(&mut self, words: &Words<'_>, say: &mut Say) -> Result<(), Trouble> {
+        words.end()?;
+        let Some(left) = self.left(say.alloc)? else {
+            self.artifacts = copies(say.alloc, &self.added)?;
+            return say.none();
+        };
+        self.standing = standing_of(say.alloc, self.owner.term_length, &left)?;
+        self.artifacts = copies(say.alloc, &left)?;
+        self.added = left;
+        say.view(self.standing.floor())?;
+        say.gap()?;
+        say.number(self.added.len() as u64)
+    }
+
+    /// `artifacts`: the list, each spelled, with commas between, or `-`.
+    fn spelled(&self, words: &Words<'_>, say: &mut Say) -> Result<(), Trouble> {
+        words.end()?;
+        if self.artifacts.is_empty() {
+            return say.none();
+        }
+        let mut is_first = true;
+        for item in &self.artifacts {
+            if !is_first {
+                say.text(",")?;
+            }
+            say.value(item)?;
+            is_first = false;
+        }
+        Ok(())
+    }
+
+    /// `floor`: the view that those that were added begin behind.
+    fn floor(&self, words: &Words<'_>, say: &mut Say) -> Result<(), Trouble> {
+        words.end()?;
+        say.view(self.standing.floor())
+    }
+
     /// The calls of a record.
     pub(crate) fn answer(
         &mut self,
@@ -148,6 +242,20 @@ impl<S: Committee> Record<S> {
             "allows" => self.allows(words, say),
             "add" => self.add(words, say),
             "check" => self.check(words, say),
+            _ => self.rewrites(name, words, say),
+        }
+    }
+
+    /// Those of a rewrite.
+    fn rewrites(
+        &mut self,
+        name: &str,
+        words: &mut Words<'_>,
+        say: &mut Say,
+    ) -> Result<(), Trouble> {
+        match name {
+            "rewrite" => self.rewrite(words, say),
+            "artifacts" => self.spelled(words, say),
             _ => self.asked(name, words, say),
         }
     }
@@ -158,6 +266,7 @@ impl<S: Committee> Record<S> {
             "verdict" => self.verdict(words, say),
             "has_certificate" => self.has_certificate(words, say),
             "last_nullify" => self.last_nullify(words, say),
+            "floor" => self.floor(words, say),
             _ => Err(Trouble::Unreadable),
         }
     }

@@ -3,8 +3,9 @@
 use crate::reading::{abandoned, last_floor};
 use simplex_resolver::{Ask, Kind, Until};
 use simplex_types::PlainScheme;
-use test_words::{Say, Trouble, Words};
+use test_words::{Committee, Say, Trouble, Words};
 use types_core::{Sha256Digest, ViewDelta};
+use voter_rules::check_floor;
 use voter_rules::config::{Config, ForwardPolicy, SkipBudget, SkipPolicy, check_config};
 
 /// How many members the committees have whose certificates are read.
@@ -14,6 +15,7 @@ const MEMBERS: u32 = 4;
 pub fn ask(name: &str, words: &mut Words<'_>, say: &mut Say) -> Result<(), Trouble> {
     match name {
         "check_config" => check(words, say),
+        "check_floor" => check_start(words, say),
         "budget" => {
             let budget = budget(words)?;
             say.number(budget.resolve(last_index(words)?))
@@ -83,7 +85,7 @@ fn last_forward(words: &mut Words<'_>) -> Result<ForwardPolicy, Trouble> {
 /// `EPOCH K LEADER CERTIFICATION RETRY RETENTION SKIP BUDGET FORWARD TRACK`.
 fn config(words: &mut Words<'_>) -> Result<Config<Sha256Digest>, Trouble> {
     let epoch = words.epoch()?;
-    let genesis = words.payload()?;
+    let floor = words.payload()?;
     let leader_timeout = words.number()?;
     let certification_timeout = words.number()?;
     let timeout_retry = words.number()?;
@@ -93,7 +95,7 @@ fn config(words: &mut Words<'_>) -> Result<Config<Sha256Digest>, Trouble> {
     let track_historical_votes = words.truth()?;
     Ok(Config {
         epoch,
-        genesis,
+        floor,
         leader_timeout,
         certification_timeout,
         timeout_retry,
@@ -111,10 +113,26 @@ fn check(words: &mut Words<'_>, say: &mut Say) -> Result<(), Trouble> {
     words.end()?;
     match check_config(&config, participants) {
         Ok(()) => say.ok(),
-        Err(fault) => {
-            say.text("fault ")?;
-            say.number(u64::from(fault.number()))
-        }
+        Err(fault) => tell_fault(fault.number(), say),
+    }
+}
+
+/// Says the number of a fault.
+fn tell_fault(number: u8, say: &mut Say) -> Result<(), Trouble> {
+    say.text("fault ")?;
+    say.number(u64::from(number))
+}
+
+/// `N EPOCH LENGTH FLOOR`: says the fault of a floor in a committee of so many, of this epoch, in terms of so many views.
+fn check_start(words: &mut Words<'_>, say: &mut Say) -> Result<(), Trouble> {
+    let participants = words.index()?;
+    let epoch = words.epoch()?;
+    let length = words.term_length()?;
+    let scheme = PlainScheme::member_of(say.alloc, participants, None, 0)?;
+    let floor = last_floor::<PlainScheme>(say.alloc, words, participants)?;
+    match check_floor(&floor, epoch, &scheme, length) {
+        Ok(()) => say.ok(),
+        Err(fault) => tell_fault(fault.number(), say),
     }
 }
 

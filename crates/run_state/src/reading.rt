@@ -1,5 +1,6 @@
 //! Words that only these scripts have.
 
+use messages_certificates::Finalization;
 use simplex_state::Floor;
 use simplex_types::PlainKey;
 use std::alloc::Global;
@@ -101,7 +102,8 @@ pub fn abandoned(words: &mut Words<'_>) -> Result<HandoffAbandonedReason, Troubl
     Err(Trouble::Unreadable)
 }
 
-/// What a member of a committee of so many starts from, which ends the line: `genesis K` or a finalization.
+/// What a member of a committee of so many starts from, which ends the line: `genesis K`, a finalization, or `spelled BYTES`
+/// for one that is spelled, whoever signed it.
 pub fn last_floor<S: Committee>(
     alloc: Global,
     words: &mut Words<'_>,
@@ -111,6 +113,11 @@ pub fn last_floor<S: Committee>(
         "genesis" => Ok(Floor::Genesis(last_payload(words)?)),
         "finalization" => {
             let finalization = words.finalization::<S>(alloc, participants)?;
+            words.end()?;
+            Ok(Floor::Finalized(finalization))
+        }
+        "spelled" => {
+            let finalization: Finalization<S, Sha256Digest> = words.value(alloc, participants)?;
             words.end()?;
             Ok(Floor::Finalized(finalization))
         }

@@ -50,7 +50,7 @@ fn config(words: &mut Words<'_>, epoch: Epoch) -> Result<Config<Sha256Digest>, T
     }
     Ok(Config {
         epoch,
-        genesis: Sha256Digest::new([0; 32]),
+        floor: Sha256Digest::new([0; 32]),
         leader_timeout,
         certification_timeout,
         timeout_retry,

@@ -14,7 +14,7 @@ use Rattle.voter_rules.specs.declared.config.SkipPolicy.TheVariants as skip
 abbrev pub program_config : Config (List ℕ)
 program_config = record {
   epoch = 0;
-  genesis = replicate 32 0;
+  floor = replicate 32 0;
   leader_timeout = 1000;
   certification_timeout = 2000;
   timeout_retry = 5000;

@@ -19,7 +19,7 @@ pub fn config() -> Config<Sha256Digest>
 {
     Config {
         epoch: Epoch::new(0),
-        genesis: Sha256Digest::new([0; 32]),
+        floor: Sha256Digest::new([0; 32]),
         leader_timeout: 1_000,
         certification_timeout: 2_000,
         timeout_retry: 5_000,

@@ -15,7 +15,7 @@ use Rattle.voter_history.specs.Past.{Item}
 use Rattle.voter_history.specs.Leaders.{extend}
 use Rattle.voter_history.specs.Pasts.{bind, put}
 use Rattle.voter_history.specs.History as views
-use Rattle.voter_history.specs.History.{started, notarized, nullified, finalized, judged, forwarded, built, confirmed, unbound, latched, build_asked, build_released, verify_asked, ancestry_asked, certify_asked, certify_waited, voted_notarize, voted_nullify, voted_finalize, recalled_notarize, recalled_nullify, recalled_finalize, recalled_verdict, sent, polled, pruned, current, enter, later, min_active, seen, undecided_payload}
+use Rattle.voter_history.specs.History.{started, based, notarized, nullified, finalized, judged, forwarded, built, confirmed, unbound, latched, build_asked, build_released, verify_asked, ancestry_asked, certify_asked, certify_waited, voted_notarize, voted_nullify, voted_finalize, recalled_notarize, recalled_nullify, recalled_finalize, recalled_verdict, sent, polled, pruned, current, enter, later, min_active, seen, undecided_payload}
 use Rattle.voter_history.specs.Leaders.{inherits, leader, named, named_early}
 use Rattle.simplex_member.proofs.Rising.{all-rise}
 use Rattle.simplex_member.proofs.Lists.{some-is}
@@ -207,6 +207,7 @@ module _ {S D P G C : Type 0} where
 
     plain-inv : (v : views.Setup S C) (x : views.Point S D P G C) (h : List (views.Point S D P G C)) → IsPlain x → min_active v (x ∷ h) ≤ view → Inv Pending view (seen v h view) → Inv Pending view (seen v (x ∷ h) view)
     plain-inv v (started now payload) h fits kept i = enter-inv v (current v h) now 1 (seen v h) i
+    plain-inv v (based floor) h fits kept i = i
     plain-inv v (notarized c) h fits kept i = put-inv c.proposal.round.view (past.notarized c) (seen v h) (λ e. e) i
     plain-inv v (nullified now c) h fits kept i = put-inv c.round.view (past.nullified c) (enter v (current v h) now (next_term_start v.length c.round.view) (seen v h)) (λ e. tt) (enter-inv v (current v h) now (next_term_start v.length c.round.view) (seen v h) i)
     plain-inv v (finalized now c) h fits kept i = put-inv c.proposal.round.view (past.finalized c) (enter v (current v h) now (c.proposal.round.view + 1) (seen v h)) (λ e. e) (enter-inv v (current v h) now (c.proposal.round.view + 1) (seen v h) i)

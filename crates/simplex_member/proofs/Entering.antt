@@ -83,6 +83,7 @@ module _ {S D P G C : Type 0} (s : views.Setup S C) where
     -- a point puts no certificate on a view but its own
     puts-from : (q : views.Point S D P G C) (view : ℕ) → Puts (IsFrom (q ∷ h)) s q view
     puts-from (views.started now payload) view = enters-from (views.started now payload) now
+    puts-from (views.based floor) view = tt
     puts-from (views.notarized c) view = λ d is. (views.notarized c, Contains-head (views.notarized c) h, is)
     puts-from (views.nullified now c) view = (λ d is. (views.nullified now c, Contains-head (views.nullified now c) h, is), enters-from (views.nullified now c) now)
     puts-from (views.finalized now c) view = (λ d is. (views.finalized now c, Contains-head (views.finalized now c) h, is), enters-from (views.finalized now c) now)
@@ -264,7 +265,7 @@ module _ {S D P G C : Type 0} (p : Point S D P G C) where
 
 module _ {S D P G C : Type 0} (s : Setup S D C) where
   point-records : (now low : ℕ) (p : Point S D P G C) → Records p (voter_points s now low p)
-  point-records now low (Opened t) = records-plain (Opened t) (views.started t s.genesis) [] refl (records-nil (Opened t))
+  point-records now low (Opened t) = records-plain (Opened t) (views.started t (Some s.genesis)) [] refl (records-nil (Opened t))
   point-records now low (Found x taken) = found-records (Found x taken) now x taken refl
   point-records now low Began = records-plain Began views.pruned [] refl (records-nil Began)
   point-records now low (Came c) = takes-records (Came c) now low c refl

@@ -82,6 +82,7 @@ module _ {S D P G C : Type 0} (v : views.Setup S C) (view : ℕ) where
 
     puts-from : (q : views.Point S D P G C) → Puts (IsFrom (q ∷ h)) v q view
     puts-from (views.started now payload) = enters-from (views.started now payload) now
+    puts-from (views.based floor) = tt
     puts-from (views.notarized c) = none-new (views.notarized c ∷ h) (past.notarized c) refl
     puts-from (views.nullified now c) = (none-new (views.nullified now c ∷ h) (past.nullified c) refl, enters-from (views.nullified now c) now)
     puts-from (views.finalized now c) = (none-new (views.finalized now c ∷ h) (past.finalized c) refl, enters-from (views.finalized now c) now)

@@ -49,6 +49,7 @@ module _ {S D P G C : Type 0} (Good : past.Item S D P G C → Type 0) where
     -- what a point puts on a view is good
     abbrev pub Puts : views.Point S D P G C → ℕ → Type 0
     Puts (views.started now payload) view = Enters now
+    Puts (views.based floor) view = ⊤
     Puts (views.notarized c) view = Good (past.notarized c)
     Puts (views.nullified now c) view = Good (past.nullified c) × Enters now
     Puts (views.finalized now c) view = Good (past.finalized c) × Enters now
@@ -88,6 +89,7 @@ module _ {S D P G C : Type 0} (Good : past.Item S D P G C → Type 0) where
 
     pub seen-good : (q : views.Point S D P G C) (h : List (views.Point S D P G C)) (view : ℕ) → Puts q view → AreGood (seen s h view) → AreGood (seen s (q ∷ h) view)
     seen-good (views.started now payload) h view new good = enter-good (current s h) now 1 (seen s h) view new good
+    seen-good (views.based floor) h view new good = good
     seen-good (views.notarized c) h view new good = put-good c.proposal.round.view (past.notarized c) (seen s h) view (λ e. new) good
     seen-good (views.nullified now c) h view new good = put-good c.round.view (past.nullified c) (enter s (current s h) now (next_term_start s.length c.round.view) (seen s h)) view (λ e. new.0)
         (enter-good (current s h) now (next_term_start s.length c.round.view) (seen s h) view new.1 good)

@@ -11,7 +11,7 @@ use Rattle.voter_history.specs.Past as past
 use Rattle.voter_history.specs.Past.{Item}
 use Rattle.voter_history.specs.Pasts.{bind, put}
 use Rattle.voter_history.specs.History as views
-use Rattle.voter_history.specs.History.{started, notarized, nullified, finalized, judged, forwarded, built, confirmed, unbound, latched, build_asked, build_released, verify_asked, ancestry_asked, certify_asked, certify_waited, voted_notarize, voted_nullify, voted_finalize, recalled_notarize, recalled_nullify, recalled_finalize, recalled_verdict, sent, polled, pruned, current, enter, last_finalized, later, min_active, seen, undecided_payload}
+use Rattle.voter_history.specs.History.{started, based, notarized, nullified, finalized, judged, forwarded, built, confirmed, unbound, latched, build_asked, build_released, verify_asked, ancestry_asked, certify_asked, certify_waited, voted_notarize, voted_nullify, voted_finalize, recalled_notarize, recalled_nullify, recalled_finalize, recalled_verdict, sent, polled, pruned, current, enter, last_finalized, later, min_active, seen, undecided_payload}
 use Rattle.simplex_member.proofs.Rising.{all-rise}
 
 -- a view is no longer kept, or this holds of all that happened to it
@@ -70,6 +70,7 @@ module _ {S D P G C : Type 0} (Null : Type 0) (Ahead : ℕ → Type 0) (Asked : 
 
     seen-stays : (s : views.Setup S C) (x : views.Point S D P G C) (h : List (views.Point S D P G C)) → min_active s h ≤ view → Adds s view x → Q (seen s h view) → Q (seen s (x ∷ h) view)
     seen-stays s (started now payload) h kept adds q = stays-enter s (current s h) now 1 (seen s h) q
+    seen-stays s (based floor) h kept adds q = q
     seen-stays s (notarized c) h kept adds q = stays-put c.proposal.round.view (past.notarized c) (seen s h) (λ e. tt) q
     seen-stays s (nullified now c) h kept adds q = stays-put c.round.view (past.nullified c) (enter s (current s h) now (next_term_start s.length c.round.view) (seen s h)) (λ e. tt) (stays-enter s (current s h) now (next_term_start s.length c.round.view) (seen s h) q)
     seen-stays s (finalized now c) h kept adds q = stays-put c.proposal.round.view (past.finalized c) (enter s (current s h) now (c.proposal.round.view + 1) (seen s h)) (λ e. tt) (stays-enter s (current s h) now (c.proposal.round.view + 1) (seen s h) q)

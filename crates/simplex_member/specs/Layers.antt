@@ -139,7 +139,7 @@ module _ {S D P G C : Type 0} where
   module _ (s : Setup S D C) where
     -- what a point says of the voter, at a moment and above the last finalized view
     abbrev pub voter_points : ℕ → ℕ → Point S D P G C → List (views.Point S D P G C)
-    voter_points now low (Opened t) = started t s.genesis ∷ []
+    voter_points now low (Opened t) = started t (Some s.genesis) ∷ []
     voter_points now low (Found x taken) = finds now x taken
     voter_points now low Began = pruned ∷ []
     voter_points now low (Came c) = takes_certificate now low c

@@ -78,7 +78,7 @@ module _ {S L D P G C : Type 0} where
   setup_of g e config scheme l index = record {
     voter = built g e scheme l config;
     me = index;
-    genesis = config.genesis;
+    genesis = config.floor;
     silence = silence_of config.skip;
     forward = config.forward;
     tracks = config.track_historical_votes;

@@ -18,9 +18,8 @@ use batcher_verifier::{
 use journal_single::a_disk_reads_as_one_record;
 use messages_certificates::Artifact;
 use simplex_record::{
-    a_lawful_record_grows, agreement, chain, ever_lawful_members_vote_lawfully,
-    no_own_vote_stands_in_the_way, records_stand_on_ground as ground,
-    whole_records_are_ever_lawful,
+    a_lawful_record_grows, agreement, chain, no_own_vote_stands_in_the_way,
+    records_stand_on_ground as ground, whole_records_vote_lawfully,
 };
 use simplex_resolver::what_is_produced_came;
 use types_core::{Digest, Listing, Scheme};
@@ -305,8 +304,7 @@ pub fn agreement_of_lives<S: Listing<D>, D: Digest>()
 {
     records_obey::<S, D>();
     rounds_obey::<S, D>();
-    whole_records_are_ever_lawful::<S, D>();
-    ever_lawful_members_vote_lawfully::<S, D>();
+    whole_records_vote_lawfully::<S, D>();
     agreement::<S, D>();
 }
 
@@ -317,8 +315,7 @@ pub fn finalized_views_lie_on_one_chain<S: Listing<D>, D: Digest>()
 {
     records_obey::<S, D>();
     rounds_obey::<S, D>();
-    whole_records_are_ever_lawful::<S, D>();
-    ever_lawful_members_vote_lawfully::<S, D>();
+    whole_records_vote_lawfully::<S, D>();
     chain::<S, D>();
     lives_stand_on_ground::<S, D>();
 }

@@ -2,6 +2,7 @@
 use Rattle.std.proofs.Common.{◌≡◌, ◌≢◌, ◌⊎◌, inl, inr, ⊎_elim, ℕ, ◌+◌, ◌<◌, ◌≤◌, true, List, ◌∷◌, ◌++◌, sym, ◌∙◌, ap, subst, arith, append_assoc}
 use Rattle.std.specs.Prelude.{⊤}
 use Rattle.std.specs.List.{Contains}
+use Rattle.std.proofs.lemmas.List.{map-append}
 use Rattle.types_core.specs.declared.position.Round.{Round}
 use Rattle.types_core.specs.declared.proposal.Proposal.{Proposal}
 use Rattle.types_core.specs.Positions.{InCoveringRange}
@@ -12,12 +13,13 @@ use Rattle.messages_certificates.specs.declared.certificate.Certificate.{Certifi
 use Rattle.messages_certificates.specs.declared.certificate.Certificate.TheVariants as certificate
 use Rattle.messages_certificates.specs.Artifact.{certificate_artifact}
 use Rattle.messages_certificates.specs.Certificate.{certificate_statement, certified_by}
-use Rattle.simplex_record.specs.Record.{Entry, voted, taken, judged, entry, entries, HasVoted, HasTaken, HasJudged, finalizes, last_finalized, enters, current_view, IsCovered}
+use Rattle.simplex_record.specs.Record.{Entry, voted, taken, judged, entry, entries, HasVoted, HasTaken, HasJudged, finalizes, last_finalized, enters, current_view, IsCovered, floor}
 use Rattle.simplex_record.specs.Rules.{MayNotarize, MayNullify, MayFinalize, StandsByVotes}
 use Rattle.simplex_record.specs.declared.owner.Owner.{Owner}
 use Rattle.simplex_record.specs.Lawful.{EverStands, VotesLawfully}
 use Rattle.simplex_record.proofs.Places.{two_places, Stands, stands, Contains-earlier, Contains-mapped, Contains-place}
 use Rattle.simplex_record.proofs.Figures.{greatest-at, greatest-found, term_start-some}
+use Rattle.simplex_record.proofs.Floors.{floor-final, floor-front, floor-same}
 
 module _ {D : Type 0} where
   -- a last finalized view from 1 on was finalized
@@ -127,12 +129,15 @@ module _ {S D P G C : Type 0} {attests : ℕ → Statement D → G → Type 0} {
       let s = stands entry record_ (taken (notarize p)) here in
       follows record_ (taken (notarize p)) lawful s
 
-  -- what it votes to finalize lies behind the floor
-  pub finalize_is_above : (p : Proposal D) → HasVoted (entries record_) (finalize p) → 0 < p.round.view
+  -- what it votes to finalize lies behind the floor: something stood before the vote, so the floor is that of what stood
+  -- there
+  pub finalize_is_above : (p : Proposal D) → HasVoted (entries record_) (finalize p) → floor (entries record_) < p.round.view
   finalize_is_above p here =
       let s = stands entry record_ (voted (finalize p)) here in
       let at_p : MayFinalize owner.term_length (entries s.before) p = follows record_ (voted (finalize p)) lawful s in
-      omega (arith, at_p.above)
+      let same : floor (entries record_) ≡ floor (entries s.before) =
+      ap (λ (l : List (Artifact S D P G C)). floor (entries l)) s.is ∙ ap floor (map-append entry s.before (s.x ∷ s.after)) ∙ floor-same (entries s.before) (entries (s.x ∷ s.after)) (taken (notarize p)) at_p.notarized in
+      omega (arith, same, floor-final (entries s.before), at_p.above)
 
   -- behind a vote to finalize and one to nullify an earlier view of the term stands a finalization between them
   pub finalize_is_healed : (p : Proposal D) (r : Round) → InCoveringRange owner.term_length p.round.view r.view → HasVoted (entries record_) (finalize p) → HasVoted (entries record_) (nullify r)
@@ -167,12 +172,14 @@ module _ {S D P G C : Type 0} {attests : ℕ → Statement D → G → Type 0} {
           let passed : p.round.view + 1 ≤ current_view owner.term_length (entries t.before) = omega (arith, verdict.1, greatest-at 1 (enters owner.term_length) (entries t.before) (judged verdict.0 true) judged_before) in
           absurd (omega (arith, passed, at_r.current, range.1))
 
-  -- each view that it votes to skip is covered
-  pub skipped_is_covered : (p : Proposal D) (view : ℕ) → HasVoted (entries record_) (notarize p) → p.parent < view → view < p.round.view → 0 < view → IsCovered owner.term_length (entries record_) view
+  -- each view behind the floor that it votes to skip is covered
+  pub skipped_is_covered : (p : Proposal D) (view : ℕ) → HasVoted (entries record_) (notarize p) → p.parent < view → view < p.round.view → floor (entries record_) < view → IsCovered owner.term_length (entries record_) view
   skipped_is_covered p view here above below some =
       let s = stands entry record_ (voted (notarize p)) here in
       let at_p : MayNotarize owner.term_length (entries s.before) p = follows record_ (voted (notarize p)) lawful s in
-      let covered = at_p.covered view above below some in
+      let front : floor (entries s.before) ≤ floor (entries record_) =
+      omega (arith, floor-front (entries s.before) (entries (s.x ∷ s.after)), ap (λ (l : List (Artifact S D P G C)). floor (entries l)) s.is, ap floor (map-append entry s.before (s.x ∷ s.after))) in
+      let covered = at_p.covered view above below (omega (arith, front, some)) in
       (covered.0, covered.1, within record_ (voted (notarize p)) (taken (nullify covered.0)) s covered.2)
 
   -- a certificate in it certifies what it states

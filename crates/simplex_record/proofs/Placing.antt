@@ -1,9 +1,10 @@
 -- Where the last own nullify stands, when one more entry stands behind the others.
-use Rattle.std.proofs.Common.{◌≡◌, ⊎_elim, ℕ, ◌+◌, Bool, true, false, List, [], ◌∷◌, ◌++◌, length, Option, None, Some, if◌then◌else◌, refl, sym, ◌∙◌, ap, subst, append_assoc, length-append, arith}
+use Rattle.std.proofs.Common.{◌≡◌, ◌==◌, ⊎_elim, ℕ, ◌+◌, Bool, true, false, List, [], ◌∷◌, ◌++◌, length, Option, None, Some, if◌then◌else◌, refl, sym, ◌∙◌, ap, subst, append_assoc, length-append, arith}
+use Rattle.std.proofs.lemmas.Bool.Decides.{nat_tests}
 use Rattle.std.proofs.lemmas.List.Elements.{Contains-push_cases}
 use Rattle.types_core.specs.Subject.{notarize, nullify, finalize}
 use Rattle.simplex_record.specs.declared.numbering.Numbering.{Numbering}
-use Rattle.simplex_record.specs.Record.{Entry, voted, taken, judged, IsNullify, IsLastNullify}
+use Rattle.simplex_record.specs.Record.{Entry, voted, taken, judged, finalizes, floor, IsNullify, IsLastNullify}
 use Rattle.simplex_record.specs.CheckerState.{TellsLastNullify, KeepsNumbering}
 
 -- in an empty record none stands
@@ -34,12 +35,17 @@ module _ {D : Type 0} where
   -- the numbering is kept when one more entry stands behind the others
   pub KeepsNumbering-push : (old new : Numbering) (before : List (Entry D)) (e : Entry D) (is_nullify : Bool) → KeepsNumbering old before → new.count ≡ old.count + 1
       → new.last_nullify ≡ (if is_nullify then Some old.count else old.last_nullify) → (is_nullify ≡ true → IsNullify e) → (is_nullify ≡ false → IsNullify e → ⊥)
-      → KeepsNumbering new (before ++ e ∷ [])
-  KeepsNumbering-push old new before e is_nullify keeps count last is_so is_not = record {
+      → new.floor ≡ (if old.count == 0 then finalizes e else old.floor) → KeepsNumbering new (before ++ e ∷ [])
+  KeepsNumbering-push old new before e is_nullify keeps count last is_so is_not begins = record {
     count = omega (arith, count, keeps.count, length-append before (e ∷ []));
     last_nullify = by_kind is_nullify last is_so is_not;
+    floor_is = begins ∙ by_first before keeps.count keeps.floor_is;
   }
     where
+      by_first : (es : List (Entry D)) → old.count ≡ length es → old.floor ≡ floor es → (if old.count == 0 then finalizes e else old.floor) ≡ floor (es ++ e ∷ [])
+      by_first [] is floor_is = rw is refl
+      by_first (x ∷ es) is floor_is = let some : (old.count == 0) ≡ false = grind (arith, nat_tests, is) in rw some floor_is
+
       by_kind : (b : Bool) → new.last_nullify ≡ (if b then Some old.count else old.last_nullify) → (b ≡ true → IsNullify e) → (b ≡ false → IsNullify e → ⊥) → TellsLastNullify (before ++ e ∷ []) new.last_nullify
       by_kind true is is_so is_not = subst (TellsLastNullify (before ++ e ∷ [])) (sym is) (stands_last before e (is_so refl) old.count keeps.count)
       by_kind false is is_so is_not = subst (TellsLastNullify (before ++ e ∷ [])) (sym is) (tells_same before e (is_not refl) old.last_nullify keeps.last_nullify)

@@ -1,8 +1,7 @@
 -- What was recorded one after the other, whatever rewrites left of it.
 use Rattle.std.specs.List.{Contains, filter}
-use Rattle.std.proofs.Common.{◌≡◌, inl, inr, ⊎_elim, ℕ, Bool, List, [], ◌∷◌, ◌++◌, length, refl, sym, ◌∙◌, ap, subst, append_assoc, arith}
+use Rattle.std.proofs.Common.{◌≡◌, inl, inr, ⊎_elim, ℕ, Bool, List, [], ◌∷◌, ◌++◌, length, refl, sym, ap, subst, arith}
 use Rattle.std.proofs.lemmas.Bool.{cases_Bool}
-use Rattle.std.proofs.lemmas.List.{append-nil}
 use Rattle.std.proofs.lemmas.List.Elements.{Contains-append_left, Contains-push_cases}
 use Rattle.types_quorum.specs.Counting.{Contains-cases, Contains-head, Contains-rest}
 use Rattle.types_core.specs.declared.position.Round.{Round}
@@ -18,21 +17,21 @@ use Rattle.simplex_record.proofs.Checks.{last_or_earlier}
 use Rattle.simplex_record.proofs.Places.{stands, Contains-mapped, Contains-place}
 
 module _ {D : Type 0} where
-  -- what may follow may follow where all is kept
-  kept_whole : (views : ℕ) (es : List (Entry D)) (e : Entry D) → MayFollow views es e → MayEverFollow views es es e
-  kept_whole views es (voted (notarize p)) may = may
-  kept_whole views es (voted (nullify r)) may = may
-  kept_whole views es (voted (finalize p)) may = may
-  kept_whole views es (taken s) may = may
-  kept_whole views es (judged r verdict) may = may
-
   -- what may follow stands in its place
   stands_so : (views : ℕ) (ever kept : List (Entry D)) (e : Entry D) → MayEverFollow views ever kept e → StandsByVotes views ever e
-  stands_so views ever kept (voted (notarize p)) may = may
+  stands_so views ever kept (voted (notarize p)) may = may.may
   stands_so views ever kept (voted (nullify r)) may = may
   stands_so views ever kept (voted (finalize p)) may = may
   stands_so views ever kept (taken s) may = may.parent_below
   stands_so views ever kept (judged r verdict) may = tt
+
+  -- and so does what may follow where nothing was dropped
+  stands_whole : (views : ℕ) (before : List (Entry D)) (e : Entry D) → MayFollow views before e → StandsByVotes views before e
+  stands_whole views before (voted (notarize p)) may = may
+  stands_whole views before (voted (nullify r)) may = may
+  stands_whole views before (voted (finalize p)) may = may
+  stands_whole views before (taken s) may = may.parent_below
+  stands_whole views before (judged r verdict) may = tt
 
   -- no vote of a record stands in the way of one that may follow
   pub none_in_the_way : (views : ℕ) (before : List (Entry D)) (s t : Statement D) → MayFollow views before (voted s) → HasVoted before t → StandsInTheWay s t → ⊥
@@ -94,6 +93,12 @@ module _ {S D P G C : Type 0} {attests : ℕ → Statement D → G → Type 0} {
       let was = was_recorded lawful.1 before after x is in
       record { verifies = was.fits.verifies; stands = stands_so owner.term_length (entries before) (entries was.kept) (entry x) was.fits.follows }
 
+  -- so does one of whose lawful record nothing was dropped
+  pub whole_votes_lawfully : (artifacts : List (Artifact S D P G C)) → IsLawful attests certifies owner artifacts → VotesLawfully attests certifies owner artifacts
+  whole_votes_lawfully artifacts lawful before after x is =
+      let fits = lawful before after x is in
+      record { verifies = fits.verifies; stands = stands_whole owner.term_length (entries before) (entry x) fits.follows }
+
   -- a verdict stands behind a notarization of its round
   pub notarized_before : (before after : List (Artifact S D P G C)) (round : Round) (verdict : Bool) → IsEverLawful attests certifies owner (before ++ artifact.Certification round verdict ∷ after) → (p : Proposal D) × (p.round ≡ round) × HasTaken (entries before) (notarize p)
   notarized_before before after round verdict lawful =
@@ -102,15 +107,3 @@ module _ {S D P G C : Type 0} {attests : ℕ → Statement D → G → Type 0} {
       let s = stands entry was.kept (taken (notarize may.notarized.0)) may.notarized.2 in
       let in_kept : Contains was.kept s.x = subst (λ (l : List (Artifact S D P G C)). Contains l s.x) (sym s.is) (Contains-place s.before s.after s.x) in
       (may.notarized.0, may.notarized.1, subst (Contains (entries before)) s.gives (Contains-mapped entry before s.x (kept_was was.recorded s.x in_kept)))
-
-  -- what is recorded and never rewritten is kept whole
-  recorded_whole : (before rest artifacts : List (Artifact S D P G C)) → artifacts ≡ before ++ rest → IsLawful attests certifies owner artifacts → IsRecorded attests certifies owner before before → IsRecorded attests certifies owner artifacts artifacts
-  recorded_whole before [] artifacts is lawful recorded = subst (λ (l : List (Artifact S D P G C)). IsRecorded attests certifies owner l l) (sym (is ∙ append-nil before)) recorded
-  recorded_whole before (x ∷ rest) artifacts is lawful recorded =
-      let fits = lawful before rest x is in
-      let more : EverFits attests certifies owner before before x = record { verifies = fits.verifies; follows = kept_whole owner.term_length (entries before) (entry x) fits.follows } in
-      recorded_whole (before ++ x ∷ []) rest artifacts (is ∙ sym (append_assoc before (x ∷ []) rest)) lawful (further x recorded more)
-
-  -- a lawful record of which nothing was ever dropped is all that was ever recorded
-  pub all_kept : (artifacts : List (Artifact S D P G C)) → IsLawful attests certifies owner artifacts → IsEverLawful attests certifies owner artifacts
-  all_kept artifacts lawful = (artifacts, recorded_whole [] artifacts artifacts refl lawful nothing)

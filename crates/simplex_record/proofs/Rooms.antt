@@ -1,8 +1,8 @@
 -- What a lawful record speaks of has room.
-use Rattle.std.proofs.Common.{◌≡◌, List, ◌∷◌, ◌++◌, refl, sym, ◌∙◌, ap, subst, append_assoc}
+use Rattle.std.proofs.Common.{List, ◌∷◌, ◌++◌, refl, ◌∙◌, ap, subst, append_assoc}
 use Rattle.types_core.specs.declared.proposal.Proposal.{Proposal}
 use Rattle.types_core.specs.Positions.{HasRoom}
-use Rattle.types_core.specs.Subject.{Statement, notarize}
+use Rattle.types_core.specs.Subject.{notarize}
 use Rattle.messages_certificates.specs.declared.artifact.Artifact.{Artifact}
 use Rattle.messages_certificates.specs.declared.artifact.Artifact.TheVariants as artifact
 use Rattle.messages_certificates.specs.Artifact.{artifact_round}

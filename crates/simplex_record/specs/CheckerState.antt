@@ -13,7 +13,7 @@ use Rattle.simplex_record.specs.declared.numbering.Numbering.{Numbering}
 use Rattle.simplex_record.specs.declared.standing.Standing.{Standing}
 use Rattle.simplex_record.specs.declared.votes.Votes.{Votes}
 use Rattle.simplex_record.specs.Coverage as coverage
-use Rattle.simplex_record.specs.Record.{Entry, HasVoted, HasTaken, HasJudged, IsLastNullify, IsCovered, last_finalized, current_view}
+use Rattle.simplex_record.specs.Record.{Entry, HasVoted, HasTaken, HasJudged, IsLastNullify, IsCovered, last_finalized, current_view, floor}
 use Rattle.simplex_record.specs.Told.{told, notarized_at, nullified_at, finalized_at, vote_in, certificate_in, verdict_at}
 
 module _ {D Y : Type 0} where
@@ -50,10 +50,11 @@ module _ {D : Type 0} where
   abbrev pub TellsLastNullify : List (Entry D) → Option ℕ → Type 0
   TellsLastNullify before place = MatchOption place ((r : Round) → HasVoted before (nullify r) → ⊥) (IsLastNullify before)
 
-  -- how many entries there are is kept, and where the last own nullify stands
+  -- how many entries there are is kept, where the last own nullify stands, and the floor
   pub record KeepsNumbering (numbering : Numbering) (before : List (Entry D)) : Type 0 where
     pub count : numbering.count ≡ length before
     pub last_nullify : TellsLastNullify before numbering.last_nullify
+    pub floor_is : numbering.floor ≡ floor before
 
   -- what is kept of each view is what the entries tell
   pub record KeepsViews (views : ℕ) (standing : Standing D) (before : List (Entry D)) : Type 0 where

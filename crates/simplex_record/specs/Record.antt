@@ -107,9 +107,10 @@ module _ {D : Type 0} where
   abbrev pub IsCovered : ℕ → List (Entry D) → ℕ → Type 0
   IsCovered views record_ view = (r : Round) × InCoveringRange views view r.view × HasTaken record_ (nullify r)
 
-  -- the view that the record begins behind: each begins at the start
+  -- the view that the record begins behind: that of its first entry, where it finalizes one
   abbrev pub floor : List (Entry D) → ℕ
-  floor record_ = 0
+  floor [] = 0
+  floor (e ∷ record_) = finalizes e
 
   -- a view is kept, where so many views below the last finalized one are retained: it isn't below the least of these
   abbrev pub IsKept : ℕ → List (Entry D) → ℕ → Type 0

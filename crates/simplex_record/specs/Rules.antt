@@ -44,6 +44,7 @@ module _ {D : Type 0} where
   -- the member may vote to notarize the proposal
   pub record MayNotarize (views : ℕ) (before : List (Entry D)) (p : Proposal D) : Type 0 where
     pub room : HasRoom views p.round.view
+    pub behind : floor before < p.round.view
     pub first : HasNoVoteLike before (notarize p)
     pub not_given_up : HasNoVoteLike before (nullify p.round)
     pub parent_below : p.parent < p.round.view
@@ -109,10 +110,17 @@ module _ {D : Type 0} where
   reach views (taken (finalize p)) = p.round.view
   reach views (judged r verdict) = r.view
 
+  -- a member that keeps so much of all that it ever recorded may vote to notarize the proposal: by all of that, from its
+  -- floor on, and of a view behind the floor of what is kept
+  pub record MayEverNotarize (views : ℕ) (ever kept : List (Entry D)) (p : Proposal D) : Type 0 where
+    pub may : MayNotarize views ever p
+    pub from_floor : floor ever ≤ p.parent
+    pub behind_kept : floor kept < p.round.view
+
   -- an entry may stand behind all these that were ever recorded, where so much is kept: the rules on votes ask all that was
   -- ever recorded, those on certificates and verdicts what is kept
   abbrev pub MayEverFollow : ℕ → List (Entry D) → List (Entry D) → Entry D → Type 0
-  MayEverFollow views ever kept (voted (notarize p)) = MayNotarize views ever p
+  MayEverFollow views ever kept (voted (notarize p)) = MayEverNotarize views ever kept p
   MayEverFollow views ever kept (voted (nullify r)) = MayNullify views ever r
   MayEverFollow views ever kept (voted (finalize p)) = MayFinalize views ever p
   MayEverFollow views ever kept (taken s) = MayTake views kept s

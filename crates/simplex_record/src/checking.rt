@@ -1,7 +1,7 @@
 //! Checking a record by its rules.
 
 ghost use Rattle.std.specs.Prelude.{◌≡◌, ◌↔◌, ◌++◌, ◌∷◌, [], List, false, IsTrue, IfErr, IfOk, IfSome, IfNone, OnOk};
-ghost use Rattle.simplex_record.specs.Record.{Entry, entry, entries, IsNullify};
+ghost use Rattle.simplex_record.specs.Record.{Entry, entry, entries, finalizes, IsNullify};
 ghost use Rattle.simplex_record.specs.Rules.{MayFollow, LeavesRoom};
 ghost use Rattle.simplex_record.specs.Lawful.{Verifies, IsLawful, IsRefusedAt};
 ghost use Rattle.simplex_record.specs.CheckerState.{Keeps, KeepsViews};
@@ -10,7 +10,7 @@ use crate::owner::Owner;
 use crate::standing::Standing;
 use messages_certificates::Artifact;
 use std::alloc::{AllocError, Global};
-use types_core::{Digest, Epoch, Epochable, Participant, Scheme, TermLength, Viewable};
+use types_core::{Digest, Epoch, Epochable, Participant, Scheme, TermLength, View, Viewable};
 
 /// The position of the first artifact that a lawful record of this owner refuses, or `None` where the
 /// record is lawful. It takes a logarithmic time for each artifact beside what the scheme takes to verify
@@ -118,6 +118,21 @@ fn is_nullify<S: Scheme<D>, D: Digest>(artifact: &Artifact<S, D>) -> bool
     matches!(artifact, Artifact::Nullify(_))
 }
 
+/// The view that the artifact finalizes, or 0.
+fn finalized_by<S: Scheme<D>, D: Digest>(artifact: &Artifact<S, D>) -> View
+    ensures { result ≡ finalizes (entry artifact.now) }
+{
+    match artifact {
+        Artifact::Finalization(certificate) => certificate.view(),
+        Artifact::Notarize(_) => View::zero(),
+        Artifact::Notarization(_) => View::zero(),
+        Artifact::Certification(_, _) => View::zero(),
+        Artifact::Nullify(_) => View::zero(),
+        Artifact::Nullification(_) => View::zero(),
+        Artifact::Finalize(_) => View::zero(),
+    }
+}
+
 impl<D: Digest> Standing<D> {
     /// Whether the rules allow the artifact.
     pub fn allows<S: Scheme<D>>(&self, length: TermLength, artifact: &Artifact<S, D>) -> bool
@@ -160,7 +175,8 @@ impl<D: Digest> Standing<D> {
             return Ok(false);
         }
         self.take(length, artifact)?;
-        self.numbering.pass(is_nullify(artifact))?;
+        self.numbering
+            .pass(is_nullify(artifact), finalized_by(artifact))?;
         Ok(true)
     }
 

@@ -1,6 +1,6 @@
 //! Agreement of members whose records are lawful, and the chain that what they finalize is.
 
-ghost use Rattle.std.specs.Prelude.{◌≡◌, ℕ, Bool, List, [], ◌∷◌, ◌++◌, Option};
+ghost use Rattle.std.specs.Prelude.{◌≡◌, ◌<◌, ℕ, Bool, List, [], ◌∷◌, ◌++◌, Contains, Option};
 ghost use Rattle.messages_certificates.specs.declared.artifact.Artifact.{Artifact};
 ghost use Rattle.simplex_record.specs.declared.owner.Owner.{Owner};
 ghost use Rattle.simplex_record.specs.Chain.{StandsOnGround, MayFollowOnGround, AllStandOnGround, OneChain};
@@ -10,9 +10,11 @@ ghost use Rattle.types_core.specs.Subject.{Statement, notarize};
 ghost use Rattle.types_core.specs.Positions.{HasRoom};
 ghost use Rattle.messages_certificates.specs.Artifact.{artifact_round};
 ghost use Rattle.messages_certificates.specs.declared.artifact.Artifact.TheVariants as artifact;
-ghost use Rattle.simplex_record.specs.Record.{Entry, voted, entries, HasVoted, HasTaken};
+ghost use Rattle.messages_certificates.specs.ProposalCertificate.{Finalization};
+ghost use Rattle.simplex_record.specs.Record.{Entry, voted, entry, entries, floor, last_finalized, current_view, HasVoted, HasTaken};
+ghost use Rattle.simplex_record.specs.Kept.{StandsForAll, IsFrom, IsBehind, AreOfOneMember};
 ghost use Rattle.simplex_record.specs.Rules.{MayFollow, StandsInTheWay};
-ghost use Rattle.simplex_record.specs.Lawful.{Fits, IsLawful, IsEverLawful, VotesLawfully};
+ghost use Rattle.simplex_record.specs.Lawful.{Fits, IsLawful, EverFits, IsRecorded, IsEverLawful, VotesLawfully, rewritten};
 ghost use Rattle.simplex_record.specs.World.{World, IsWorld};
 ghost use Rattle.simplex_record.specs.Agreement.{OneProposalAView, NoFinalizedViewNullified, NoFinalizedViewSkipped};
 
@@ -85,6 +87,13 @@ pub fn ever_lawful_members_vote_lawfully<S: Scheme<D>, D: Digest>()
         → VotesLawfully (S.attests scheme) (S.certifies scheme) owner artifacts }
 {}
 
+/// So does one of whose lawful record nothing was ever dropped.
+pub fn whole_records_vote_lawfully<S: Scheme<D>, D: Digest>()
+    ensures { (scheme : S) (owner : Owner) (artifacts : List (Artifact S D S.PublicKey S.Signature S.Certificate))
+        → IsLawful (S.attests scheme) (S.certifies scheme) owner artifacts
+        → VotesLawfully (S.attests scheme) (S.certifies scheme) owner artifacts }
+{}
+
 /// Where all that was ever recorded is lawful, a notarization of a verdict's round stands before it.
 pub fn verdicts_follow_their_notarizations<S: Scheme<D>, D: Digest>()
     ensures { (scheme : S) (owner : Owner) (before after : List (Artifact S D S.PublicKey S.Signature S.Certificate)) (round : Round)
@@ -101,9 +110,72 @@ pub fn lawful_records_leave_room<S: Scheme<D>, D: Digest>()
         → HasRoom owner.term_length (artifact_round x).view }
 {}
 
-/// A lawful record of which nothing was ever dropped is lawful as the list of all that was ever recorded.
-pub fn whole_records_are_ever_lawful<S: Scheme<D>, D: Digest>()
-    ensures { (scheme : S) (owner : Owner) (artifacts : List (Artifact S D S.PublicKey S.Signature S.Certificate))
-        → IsLawful (S.attests scheme) (S.certifies scheme) owner artifacts
-        → IsEverLawful (S.attests scheme) (S.certifies scheme) owner artifacts }
+/// What a rewrite leaves of a lawful record, behind the finalization of its last finalized view, is lawful, of
+/// the same last finalized view and the same current view; and its floor is that last finalized view.
+pub fn a_rewritten_record_is_lawful<S: Scheme<D>, D: Digest>()
+    ensures lawful { (scheme : S) (owner : Owner) (record_ : List (Artifact S D S.PublicKey S.Signature S.Certificate))
+        (c : Finalization S D S.PublicKey S.Signature S.Certificate)
+        → 0 < owner.term_length
+        → IsLawful (S.attests scheme) (S.certifies scheme) owner record_
+        → Contains record_ (artifact.Finalization c)
+        → c.proposal.round.view ≡ last_finalized (entries record_)
+        → IsLawful (S.attests scheme) (S.certifies scheme) owner (rewritten owner.term_length c record_) }
+    ensures same { (views : ℕ) (record_ : List (Artifact S D S.PublicKey S.Signature S.Certificate))
+        (c : Finalization S D S.PublicKey S.Signature S.Certificate)
+        → c.proposal.round.view ≡ last_finalized (entries record_)
+        → (last_finalized (entries (rewritten views c record_)) ≡ last_finalized (entries record_))
+        × (current_view views (entries (rewritten views c record_)) ≡ current_view views (entries record_)) }
+    ensures floor { (views : ℕ) (record_ : List (Artifact S D S.PublicKey S.Signature S.Certificate))
+        (c : Finalization S D S.PublicKey S.Signature S.Certificate)
+        → floor (entries (rewritten views c record_)) ≡ c.proposal.round.view }
+{}
+
+/// What a member keeps of all that it ever recorded is lawful, and stands for all of that: it was recorded;
+/// all that reaches above its floor is there; and both are of one last finalized view and one current view.
+pub fn what_is_kept_is_lawful<S: Scheme<D>, D: Digest>()
+    ensures lawful { (scheme : S) (owner : Owner) (ever kept : List (Artifact S D S.PublicKey S.Signature S.Certificate))
+        → 0 < owner.term_length
+        → IsRecorded (S.attests scheme) (S.certifies scheme) owner ever kept
+        → IsLawful (S.attests scheme) (S.certifies scheme) owner kept }
+    ensures stands { (scheme : S) (owner : Owner) (ever kept : List (Artifact S D S.PublicKey S.Signature S.Certificate))
+        → 0 < owner.term_length
+        → IsRecorded (S.attests scheme) (S.certifies scheme) owner ever kept
+        → StandsForAll owner.term_length (entries ever) (entries kept) }
+{}
+
+/// What fits behind what a member keeps fits behind all that it ever recorded, where a vote to notarize names a
+/// parent at or above the floor of what is kept. So a member that has forgotten the rest goes by the same rules.
+pub fn one_judgement<S: Scheme<D>, D: Digest>()
+    ensures { (scheme : S) (owner : Owner) (ever kept : List (Artifact S D S.PublicKey S.Signature S.Certificate))
+        (x : Artifact S D S.PublicKey S.Signature S.Certificate)
+        → 0 < owner.term_length
+        → IsRecorded (S.attests scheme) (S.certifies scheme) owner ever kept
+        → IsFrom (floor (entries kept)) (entry x)
+        → Fits (S.attests scheme) (S.certifies scheme) owner kept x
+        → EverFits (S.attests scheme) (S.certifies scheme) owner ever kept x }
+{}
+
+/// The three lists of a member go on together: all that it ever recorded, what its opening found and recorded
+/// since, and what its record has since the last rewrite. Each artifact that fits behind the second goes behind
+/// all three, where a vote to notarize names a parent at or above the second's floor, and it or a verdict is of a
+/// view behind the third's; a rewrite leaves the first two; and the next opening finds the third.
+pub fn three_lists_go_on<S: Scheme<D>, D: Digest>()
+    ensures first { (scheme : S) (owner : Owner) → AreOfOneMember {S = S} {P = S.PublicKey} (S.attests scheme) (S.certifies scheme) owner [] [] [] }
+    ensures opens { (scheme : S) (owner : Owner) (ever opened kept : List (Artifact S D S.PublicKey S.Signature S.Certificate))
+        → AreOfOneMember (S.attests scheme) (S.certifies scheme) owner ever opened kept
+        → AreOfOneMember (S.attests scheme) (S.certifies scheme) owner ever kept kept }
+    ensures records { (scheme : S) (owner : Owner) (ever opened kept : List (Artifact S D S.PublicKey S.Signature S.Certificate))
+        (x : Artifact S D S.PublicKey S.Signature S.Certificate)
+        → 0 < owner.term_length
+        → AreOfOneMember (S.attests scheme) (S.certifies scheme) owner ever opened kept
+        → IsFrom (floor (entries opened)) (entry x)
+        → IsBehind (floor (entries kept)) (entry x)
+        → Fits (S.attests scheme) (S.certifies scheme) owner opened x
+        → AreOfOneMember (S.attests scheme) (S.certifies scheme) owner (ever ++ x ∷ []) (opened ++ x ∷ []) (kept ++ x ∷ []) }
+    ensures rewrites { (scheme : S) (owner : Owner) (ever opened kept : List (Artifact S D S.PublicKey S.Signature S.Certificate))
+        (c : Finalization S D S.PublicKey S.Signature S.Certificate)
+        → AreOfOneMember (S.attests scheme) (S.certifies scheme) owner ever opened kept
+        → Contains kept (artifact.Finalization c)
+        → c.proposal.round.view ≡ last_finalized (entries kept)
+        → AreOfOneMember (S.attests scheme) (S.certifies scheme) owner ever opened (rewritten owner.term_length c kept) }
 {}

@@ -5,7 +5,7 @@ ghost use Rattle.std.specs.Prelude.{◌≡◌, ◌↔◌, ◌<◌, ◌≤◌, �
 ghost use Rattle.types_core.specs.LatestFirst.{stored};
 ghost use Rattle.types_core.specs.Positions.{HasRoom};
 ghost use Rattle.types_core.specs.Subject.{notarize, nullify, finalize};
-ghost use Rattle.simplex_record.specs.Record.{Entry, HasVerdict, HasCertificate};
+ghost use Rattle.simplex_record.specs.Record.{Entry, HasVerdict, HasCertificate, floor};
 ghost use Rattle.simplex_record.specs.Rules.{MayNotarize, MayNullify, MayFinalize, MayTake, MayJudge, HasNoOpenNullify};
 ghost use Rattle.simplex_record.specs.CheckerState.{Keeps, TellsLastNullify};
 
@@ -79,6 +79,13 @@ impl<D: Digest> Standing<D> {
         self.numbering.last_nullify
     }
 
+    /// The view that the record begins behind: the one that its first artifact finalizes, or 0.
+    pub fn floor(&self) -> View
+        ensures { (views : ℕ) (before : List (Entry D)) → Keeps views self.now before → result ≡ floor before }
+    {
+        self.numbering.floor
+    }
+
     /// Whether the member may vote to notarize the proposal.
     pub fn may_notarize(&self, length: TermLength, proposal: &Proposal<D>) -> bool
         ensures lawful { (before : List (Entry D)) → Keeps length self.now before → IsTrue result ↔ MayNotarize length before proposal.now }
@@ -87,6 +94,10 @@ impl<D: Digest> Standing<D> {
     {
         let view = proposal.round.view;
         if !view.has_room(length) {
+            return false;
+        }
+        let floor = self.numbering.floor;
+        if view <= floor {
             return false;
         }
         if self.votes.notarizes.contains(&Reverse(view)) {
@@ -98,9 +109,9 @@ impl<D: Digest> Standing<D> {
         if proposal.parent >= view {
             return false;
         }
-        self.certificates
-            .covered
-            .covers_between(proposal.parent, view)
+        // What lies at or below the floor need not be covered.
+        let from = proposal.parent.max(floor);
+        self.certificates.covered.covers_between(from, view)
     }
 
     /// Whether it may vote to nullify the round.

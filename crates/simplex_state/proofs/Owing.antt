@@ -18,7 +18,7 @@ use Rattle.voter_history.specs.Held as offer
 use Rattle.voter_history.specs.Past as past
 use Rattle.voter_history.specs.Past.{Item}
 use Rattle.voter_history.specs.Pasts.{put}
-use Rattle.voter_history.specs.History.{Setup, Point, started, notarized, nullified, finalized, judged, forwarded, built, confirmed, unbound, latched, build_asked, build_released, verify_asked, ancestry_asked, certify_asked, certify_waited, voted_notarize, voted_nullify, voted_finalize, recalled_notarize, recalled_nullify, recalled_finalize, recalled_verdict, sent, polled, pruned, enter, undecided_payload, current, min_active, seen}
+use Rattle.voter_history.specs.History.{Setup, Point, started, based, notarized, nullified, finalized, judged, forwarded, built, confirmed, unbound, latched, build_asked, build_released, verify_asked, ancestry_asked, certify_asked, certify_waited, voted_notarize, voted_nullify, voted_finalize, recalled_notarize, recalled_nullify, recalled_finalize, recalled_verdict, sent, polled, pruned, enter, undecided_payload, current, min_active, seen}
 use Rattle.voter_history.specs.Known.{known}
 use Rattle.voter_views.specs.Views.{recalls}
 use Rattle.voter_rules.specs.Ancestry.{member}
@@ -155,6 +155,7 @@ module _ {S D P G C : Type 0} where
     quiet (verify_asked at p payload) is = puts b view Q at (past.bound p payload) (put at (past.offered offer.verifying) (seen s h)) tt (puts b view Q at (past.offered offer.verifying) (seen s h) tt before)
     quiet (ancestry_asked at missing) is = puts b view Q at (past.asked missing) (seen s h) tt before
     quiet (certify_asked at handle) is = puts b view Q at (past.certifying handle) (seen s h) tt before
+    quiet (based at) is = before
     quiet (certify_waited at) is = before
     quiet (voted_notarize at p) is = puts b view Q at past.voted_notarize (seen s h) tt before
     quiet (voted_nullify at) is = puts b view Q at past.voted_nullify (seen s h) tt before

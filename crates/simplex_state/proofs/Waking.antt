@@ -21,7 +21,7 @@ use Rattle.voter_history.specs.Held.{held}
 use Rattle.voter_history.specs.Past as past
 use Rattle.voter_history.specs.Past.{Item}
 use Rattle.voter_history.specs.Pasts.{put, bind}
-use Rattle.voter_history.specs.History.{Setup, Point, started, notarized, nullified, finalized, judged, forwarded, built, confirmed, unbound, latched, build_asked, build_released, verify_asked, ancestry_asked, certify_asked, certify_waited, voted_notarize, voted_nullify, voted_finalize, recalled_notarize, recalled_nullify, recalled_finalize, recalled_verdict, sent, polled, pruned, enter, undecided_payload, current, last_finalized, min_active, genesis, is_marked, seen}
+use Rattle.voter_history.specs.History.{Setup, Point, started, based, notarized, nullified, finalized, judged, forwarded, built, confirmed, unbound, latched, build_asked, build_released, verify_asked, ancestry_asked, certify_asked, certify_waited, voted_notarize, voted_nullify, voted_finalize, recalled_notarize, recalled_nullify, recalled_finalize, recalled_verdict, sent, polled, pruned, enter, undecided_payload, current, last_finalized, min_active, genesis, is_marked, seen}
 use Rattle.voter_history.specs.Known.{known, waits}
 use Rattle.voter_views.specs.Views.{recalls}
 use Rattle.voter_rules.specs.Ancestry.{member, explicit, IsRequired, IsSpan}
@@ -132,6 +132,7 @@ module _ {S D P G C : Type 0} where
       (put_grows s (verify_asked at p payload) view _ at (past.offered offer.verifying) (seen s h) (λ here. tt) still)
   grows s h view (ancestry_asked at missing) kept = put_grows s (ancestry_asked at missing) view _ at (past.asked missing) (seen s h) (λ here. tt) still
   grows s h view (certify_asked at handle) kept = put_grows s (certify_asked at handle) view _ at (past.certifying handle) (seen s h) (λ here. tt) still
+  grows s h view (based at) kept = still
   grows s h view (certify_waited at) kept = still
   grows s h view (voted_notarize at p) kept = put_grows s (voted_notarize at p) view _ at past.voted_notarize (seen s h) (λ here. tt) still
   grows s h view (voted_nullify at) kept = put_grows s (voted_nullify at) view _ at past.voted_nullify (seen s h) (λ here. tt) still

@@ -1,5 +1,5 @@
 -- What a voter starts on.
-use Rattle.std.specs.Prelude.{◌≡◌, ℕ, if◌then◌else◌, is_some, List, ◌∷◌, Option, None}
+use Rattle.std.specs.Prelude.{◌≡◌, ℕ, if◌then◌else◌, is_some, List, ◌∷◌, Option, None, Some}
 use Rattle.types_core.specs.Positions.{HasRoom}
 use Rattle.types_core.specs.declared.scheme.Scheme.{Ghosts}
 use Rattle.types_terms.specs.declared.elector.Elector as elector
@@ -30,5 +30,5 @@ module _ {S L D P G C : Type 0} where
 
   -- the voter started on the payload, which answers nothing, or stands on the finalization
   abbrev pub StartsOn : Ghosts S D P G C → elector.Ghosts L S D P G C → Setup S C → State S L D P G C → ℕ → List (Point S D P G C) → Floor S D P G C → Option (Finalization S D P G C) → Type 0
-  StartsOn g e s state now h (floor.Genesis payload) answer = Keeps g e s state (started now payload ∷ h) × (answer ≡ None)
+  StartsOn g e s state now h (floor.Genesis payload) answer = Keeps g e s state (started now (Some payload) ∷ h) × (answer ≡ None)
   StartsOn g e s state now h (floor.Finalized c) answer = StandsOn g e s state now h c answer

@@ -12,4 +12,4 @@ pub use verify::Verify;
 pub use voter_rules::config::{
     Config, ConfigFault, ForwardPolicy, SkipBudget, SkipPolicy, check_config,
 };
-pub use voter_rules::{CertificateFetch, Floor, ProposalRequest};
+pub use voter_rules::{CertificateFetch, Floor, FloorFault, ProposalRequest, check_floor};

@@ -53,11 +53,11 @@ impl<S: Scheme<D> + Drop, L: Elector<S, D>, D: Digest> State<S, L, D> {
     /// # Errors
     ///
     /// `AllocError` where memory ran out.
-    pub fn new(
+    pub fn new<F>(
         alloc: Global,
         scheme: Rc<S>,
         elector: L,
-        config: &Config<D>,
+        config: &Config<F>,
     ) -> Result<Self, AllocError>
         requires { L.built_for elector (S.size scheme.value) }
         ensures { IfOk result (λ state. Keeps S.Scheme L.Elector (built S.Scheme L.Elector scheme.value elector config.now) state []) }

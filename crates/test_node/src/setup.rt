@@ -149,7 +149,7 @@ impl Setup {
     pub(crate) fn config(&self) -> Config<Sha256Digest> {
         Config {
             epoch: self.epoch,
-            genesis: Sha256Digest::new([0; 32]),
+            floor: Sha256Digest::new([0; 32]),
             leader_timeout: self.times.leader,
             certification_timeout: self.times.certification,
             timeout_retry: self.times.retry,

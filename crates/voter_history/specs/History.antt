@@ -43,8 +43,9 @@ pub record Setup (S C : Type 0) : Type 0 where
 -- what can happen, each at the moment that stands first where there is one. A point stands only where it took effect: a
 -- certificate that is known already, an answer that came too late, or a reason that doesn't count, is none
 pub data Point (S D P G C : Type 0) : Type 0 where
-  -- the start, on this payload
-  started : ℕ → D → Point S D P G C
+  -- the start, on the payload of view 0, where it is known; the member's record begins behind this view
+  started : ℕ → Option D → Point S D P G C
+  based : ℕ → Point S D P G C
   -- a certificate was taken, the first of its kind and view; the verdict on a view came
   notarized : Notarization S D P G C → Point S D P G C
   nullified : ℕ → Nullification S D P G C → Point S D P G C
@@ -111,18 +112,14 @@ module _ {S D P G C : Type 0} where
   last_finalized (finalized now c ∷ h) = max c.proposal.round.view (last_finalized h)
   last_finalized (x ∷ h) = last_finalized h
 
-  -- the view that the member's record begins behind: each begins at the start
-  abbrev pub floor : List (Point S D P G C) → ℕ
-  floor h = 0
-
   -- the least view that is kept
   abbrev pub min_active : Setup S C → List (Point S D P G C) → ℕ
   min_active s h = retention_floor (last_finalized h) s.retention
 
-  -- the payload at the start
+  -- the payload of view 0, where it is known
   abbrev pub genesis : List (Point S D P G C) → Option D
   genesis [] = None
-  genesis (started now payload ∷ h) = Some payload
+  genesis (started now payload ∷ h) = payload
   genesis (x ∷ h) = genesis h
 
   -- a view is entered, where it lies above the current one: from then on its deadlines run
@@ -148,6 +145,7 @@ module _ {S D P G C : Type 0} where
   abbrev pub seen : Setup S C → List (Point S D P G C) → ℕ → List (Item S D P G C)
   seen s [] = λ view. []
   seen s (started now payload ∷ h) = enter s (current s h) now 1 (seen s h)
+  seen s (based view ∷ h) = seen s h
   seen s (notarized c ∷ h) = put c.proposal.round.view (past.notarized c) (seen s h)
   seen s (nullified now c ∷ h) = put c.round.view (past.nullified c) (enter s (current s h) now (next_term_start s.length c.round.view) (seen s h))
   seen s (finalized now c ∷ h) = put c.proposal.round.view (past.finalized c) (enter s (current s h) now (c.proposal.round.view + 1) (seen s h))
@@ -178,6 +176,30 @@ module _ {S D P G C : Type 0} where
   seen s (sent k view ∷ h) = put view (sent_item k) (seen s h)
   seen s (polled now ∷ h) = if nat_lt 0 (current s h) then put (current s h) (past.polled (past.deadline now s.timeout_retry)) (seen s h) else seen s h
   seen s (pruned ∷ h) = forget (min_active s h) (seen s h)
+
+  -- nothing happened yet that the member's record has: no certificate was taken, no verdict came, and no vote was cast, nor
+  -- recalled
+  abbrev pub is_blank : Setup S C → List (Point S D P G C) → Bool
+  is_blank s [] = true
+  is_blank s (notarized c ∷ h) = false
+  is_blank s (nullified now c ∷ h) = false
+  is_blank s (finalized now c ∷ h) = false
+  is_blank s (judged now view ok ∷ h) = false
+  is_blank s (voted_notarize view p ∷ h) = false
+  is_blank s (voted_nullify view ∷ h) = past.has_nullified (seen s h view) && is_blank s h
+  is_blank s (voted_finalize view p ∷ h) = false
+  is_blank s (recalled_notarize p taken ∷ h) = false
+  is_blank s (recalled_nullify view ∷ h) = false
+  is_blank s (recalled_finalize p ∷ h) = false
+  is_blank s (x ∷ h) = is_blank s h
+
+  -- the view that the member's record begins behind: that of its first entry, where it finalizes one, or the highest that was
+  -- named since
+  abbrev pub floor : Setup S C → List (Point S D P G C) → ℕ
+  floor s [] = 0
+  floor s (based view ∷ h) = max view (floor s h)
+  floor s (finalized now c ∷ h) = if is_blank s h then max c.proposal.round.view (floor s h) else floor s h
+  floor s (x ∷ h) = floor s h
 
   -- a mark that points set on views, until the view is dropped
   abbrev pub is_marked : Setup S C → (Point S D P G C → ℕ → Bool) → List (Point S D P G C) → ℕ → Bool

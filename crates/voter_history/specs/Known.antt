@@ -51,7 +51,7 @@ module _ {S D P G C : Type 0} where
   known s h = record {
     current = current s h;
     last_finalized = last_finalized h;
-    floor = floor h;
+    floor = floor s h;
     genesis = genesis h;
     leader = leader s h;
     offers = λ view. past.offers (seen s h view);

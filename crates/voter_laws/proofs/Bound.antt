@@ -11,7 +11,7 @@ use Rattle.voter_history.specs.Held.{Differs, IsConfirmed, IsTainted, held}
 use Rattle.voter_history.specs.Past as past
 use Rattle.voter_history.specs.Past.{Item, offers, binding, has_notarized}
 use Rattle.voter_history.specs.Pasts.{put, bind}
-use Rattle.voter_history.specs.History.{Setup, Point, started, notarized, nullified, finalized, judged, forwarded, built, confirmed, unbound, latched, build_asked, build_released, verify_asked, ancestry_asked, certify_asked, certify_waited, voted_notarize, voted_nullify, voted_finalize, recalled_notarize, recalled_nullify, recalled_finalize, recalled_verdict, sent, polled, pruned, enter, undecided_payload, current, min_active, seen}
+use Rattle.voter_history.specs.History.{Setup, Point, started, based, notarized, nullified, finalized, judged, forwarded, built, confirmed, unbound, latched, build_asked, build_released, verify_asked, ancestry_asked, certify_asked, certify_waited, voted_notarize, voted_nullify, voted_finalize, recalled_notarize, recalled_nullify, recalled_finalize, recalled_verdict, sent, polled, pruned, enter, undecided_payload, current, min_active, seen}
 use Rattle.voter_laws.specs.Placing.{AnswersWereBound, DueNotarizeIsBound}
 use Rattle.voter_laws.proofs.Matched.{same_proposal}
 use Rattle.voter_laws.proofs.Placed.{held_lies_in_its_view}
@@ -129,6 +129,7 @@ module _ {S D P G C : Type 0} (same : (x y : D) → (x ≡ y) ⊎ (x ≢ y)) whe
         (stays h were.1)
     stays (ancestry_asked at missing ∷ h) were = adds at (past.asked missing) (seen s h) tt (stays h were)
     stays (certify_asked at handle ∷ h) were = adds at (past.certifying handle) (seen s h) tt (stays h were)
+    stays (based at ∷ h) were = stays h were
     stays (certify_waited at ∷ h) were = stays h were
     stays (voted_notarize at p ∷ h) were = adds at past.voted_notarize (seen s h) tt (stays h were)
     stays (voted_nullify at ∷ h) were = adds at past.voted_nullify (seen s h) tt (stays h were)

@@ -15,7 +15,7 @@ use Rattle.voter_history.specs.Held.{Offer, Agrees, held}
 use Rattle.voter_history.specs.Past as past
 use Rattle.voter_history.specs.Past.{Item, offers}
 use Rattle.voter_history.specs.Pasts.{put, bind}
-use Rattle.voter_history.specs.History.{Setup, Point, started, notarized, nullified, finalized, judged, forwarded, built, confirmed, unbound, latched, build_asked, build_released, verify_asked, ancestry_asked, certify_asked, certify_waited, voted_notarize, voted_nullify, voted_finalize, recalled_notarize, recalled_nullify, recalled_finalize, recalled_verdict, sent, polled, pruned, enter, undecided_payload, current, last_finalized, min_active, seen}
+use Rattle.voter_history.specs.History.{Setup, Point, started, based, notarized, nullified, finalized, judged, forwarded, built, confirmed, unbound, latched, build_asked, build_released, verify_asked, ancestry_asked, certify_asked, certify_waited, voted_notarize, voted_nullify, voted_finalize, recalled_notarize, recalled_nullify, recalled_finalize, recalled_verdict, sent, polled, pruned, enter, undecided_payload, current, last_finalized, min_active, seen}
 use Rattle.voter_laws.specs.Matching.{round_of, told, OwnWereTaken}
 
 -- a recorded proposal was offered where nothing or the same was held
@@ -143,6 +143,7 @@ module _ {S D P G C : Type 0} where
       (put_grows s _ view _ at (past.offered offer.verifying) (seen s h) (λ here own. tt) still)
   grows s h view (ancestry_asked at missing) kept = put_grows s _ view _ at (past.asked missing) (seen s h) (λ here. tt) still
   grows s h view (certify_asked at handle) kept = put_grows s _ view _ at (past.certifying handle) (seen s h) (λ here. tt) still
+  grows s h view (based at) kept = still
   grows s h view (certify_waited at) kept = still
   grows s h view (voted_notarize at p) kept = put_grows s _ view _ at past.voted_notarize (seen s h) (λ here. tt) still
   grows s h view (voted_nullify at) kept = put_grows s _ view _ at past.voted_nullify (seen s h) (λ here. tt) still

@@ -1,12 +1,12 @@
 -- What is known at the end of an orderly history is what its record says.
-use Rattle.std.proofs.Common.{◌≡◌, ◌≢◌, ◌⊎◌, inl, inr, true, false, ℕ, List, [], ◌∷◌, ◌++◌, sym, ◌∙◌, ap, subst, refl, ◌+◌, ◌≤◌, max, arith, if◌then◌else◌}
+use Rattle.std.proofs.Common.{◌≡◌, ◌≢◌, ◌⊎◌, inl, inr, true, false, ℕ, List, [], ◌∷◌, ◌++◌, length, sym, ◌∙◌, ap, subst, refl, ◌+◌, ◌≤◌, max, arith, if◌then◌else◌}
 use mathlib.Core.Bool.{true≢false}
 use mathlib.Core.List.{reverse, reverse-cons}
 use Rattle.std.proofs.lemmas.Bool.{cases_eq, or_left, or_right}
 use Rattle.std.proofs.lemmas.Bool.Decides.{Decides-eqb}
 use Rattle.std.proofs.lemmas.List.Sorted.{Contains-permutation, IsPermutation-reverse, IsPermutation-sym}
 use Rattle.std.proofs.lemmas.Option.{none-some, same_Some}
-use Rattle.std.specs.Prelude.{◌==◌, nat_lt, nat_le, Bool, Option, Some, None, IsSome, ◌||◌, Contains, option_map, ⊤}
+use Rattle.std.specs.Prelude.{◌==◌, nat_lt, nat_le, Bool, Option, Some, None, IsSome, ◌&&◌, ◌||◌, Contains, option_map, ⊤}
 use Rattle.std.specs.List.{cons_option}
 use Rattle.std.specs.Option.{option_or}
 use Rattle.types_quorum.specs.Counting.{Contains-cases, Contains-head, Contains-rest}
@@ -22,7 +22,7 @@ use Rattle.voter_history.specs.Held.{Offer, Agrees, IsTainted, held}
 use Rattle.voter_history.specs.Past as past
 use Rattle.voter_history.specs.Past.{Item, offers}
 use Rattle.voter_history.specs.Pasts.{put, bind}
-use Rattle.voter_history.specs.History.{Setup, Point, started, notarized, nullified, finalized, judged, voted_notarize, voted_nullify, voted_finalize, recalled_notarize, recalled_nullify, recalled_finalize, recalled_verdict, pruned, enter, undecided_payload, was_nullified, current, last_finalized, min_active, seen}
+use Rattle.voter_history.specs.History.{Setup, Point, started, based, notarized, nullified, finalized, judged, voted_notarize, voted_nullify, voted_finalize, recalled_notarize, recalled_nullify, recalled_finalize, recalled_verdict, pruned, enter, undecided_payload, was_nullified, current, floor, is_blank, last_finalized, min_active, seen}
 use Rattle.voter_laws.specs.Matching.{round_of, told, record_of, OwnWereTaken, EachHistoryMatches}
 use Rattle.voter_laws.specs.Recording.{EachRecordIsKnown}
 use Rattle.voter_laws.specs.Steps.{choose_holds, put_holds, enter_holds}
@@ -37,6 +37,19 @@ greatest_reverse : {X : Type 0} (least : ℕ) (f : X → ℕ) (xs : List X) → 
 greatest_reverse least f [] = refl
 greatest_reverse least f (x ∷ xs) =
     ap (λ (l : List _). greatest least f l) (reverse-cons x xs) ∙ (greatest_push least f (reverse xs) x ∙ ap (λ (n : ℕ). max (f x) n) (greatest_reverse least f xs))
+
+-- the floor of a list that is turned round is bounded, where it was so before the newest, and the newest is if it is the only one
+floor_nonempty : {D : Type 0} (l : List (Entry D)) (e f : Entry D) → recorded.floor ((l ++ f ∷ []) ++ e ∷ []) ≡ recorded.floor (l ++ f ∷ [])
+floor_nonempty [] e f = refl
+floor_nonempty (y ∷ l) e f = refl
+
+floor_next : {D : Type 0} (es : List (Entry D)) (e : Entry D) (m n : ℕ) → recorded.floor (reverse es) ≤ m → m ≤ n → (es ≡ [] → finalizes e ≤ n) → recorded.floor (reverse (e ∷ es)) ≤ n
+floor_next [] e m n low up first = subst (λ (l : List _). recorded.floor l ≤ n) (sym (reverse-cons e [])) (first refl)
+floor_next (x ∷ es) e m n low up first =
+    let turned : reverse (e ∷ x ∷ es) ≡ (reverse es ++ x ∷ []) ++ e ∷ [] = reverse-cons e (x ∷ es) ∙ ap (λ (l : List _). l ++ e ∷ []) (reverse-cons x es) in
+    let same : recorded.floor (reverse (e ∷ x ∷ es)) ≡ recorded.floor (reverse (x ∷ es)) =
+    ap recorded.floor turned ∙ floor_nonempty (reverse es) e x ∙ ap recorded.floor (sym (reverse-cons x es)) in
+    omega (arith, same, low, up)
 
 -- so are its elements
 in_reverse : {X : Type 0} (xs : List X) (x : X) → Contains xs x → Contains (reverse xs) x
@@ -349,6 +362,55 @@ module _ {S D P G C : Type 0} where
   finalized_told s (recalled_finalize p ∷ h) = omega (arith, finalized_told s h)
   finalized_told s (x ∷ h) = finalized_told s h
 
+  -- where nothing is told, nothing happened that is
+  blank_told : (s : Setup S C) (h : List (Point S D P G C)) → told s h ≡ [] → is_blank s h ≡ true
+  blank_told s [] none = refl
+  blank_told s (notarized c ∷ h) none = absurd (omega (arith, ap length none))
+  blank_told s (nullified now c ∷ h) none = absurd (omega (arith, ap length none))
+  blank_told s (finalized now c ∷ h) none = absurd (omega (arith, ap length none))
+  blank_told s (judged now view ok ∷ h) none = absurd (omega (arith, ap length none))
+  blank_told s (voted_notarize view p ∷ h) none = absurd (omega (arith, ap length none))
+  blank_told s (voted_nullify view ∷ h) none = by (past.has_nullified (seen s h view)) none (blank_told s h)
+    where
+      by : (b : Bool) → (if b then told s h else recorded.voted (nullify (round_of s view)) ∷ told s h) ≡ [] → (told s h ≡ [] → is_blank s h ≡ true) → (b && is_blank s h) ≡ true
+      by true none before = before none
+      by false none before = absurd (omega (arith, ap length none))
+  blank_told s (voted_finalize view p ∷ h) none = absurd (omega (arith, ap length none))
+  blank_told s (recalled_notarize p taken ∷ h) none = absurd (omega (arith, ap length none))
+  blank_told s (recalled_nullify view ∷ h) none = absurd (omega (arith, ap length none))
+  blank_told s (recalled_finalize p ∷ h) none = absurd (omega (arith, ap length none))
+  blank_told s (x ∷ h) none = blank_told s h none
+
+  -- the record begins behind no view above the known one
+  floor_told : (s : Setup S C) (h : List (Point S D P G C)) → recorded.floor (record_of s h) ≤ floor s h
+  floor_told s [] = omega arith
+  floor_told s (based view ∷ h) = omega (arith, floor_told s h)
+  floor_told s (notarized c ∷ h) = floor_next (told s h) (recorded.taken (notarize c.proposal)) (floor s h) (floor s h) (floor_told s h) (omega arith) (λ none. omega arith)
+  floor_told s (nullified now c ∷ h) = floor_next (told s h) (recorded.taken (nullify c.round)) (floor s h) (floor s h) (floor_told s h) (omega arith) (λ none. omega arith)
+  floor_told s (finalized now c ∷ h) = by (is_blank s h) refl (floor_told s h)
+    where
+      e : Entry D
+      e = recorded.taken (finalize c.proposal)
+
+      by : (b : Bool) → is_blank s h ≡ b → recorded.floor (reverse (told s h)) ≤ floor s h → recorded.floor (reverse (e ∷ told s h)) ≤ (if b then max c.proposal.round.view (floor s h) else floor s h)
+      by true is before = floor_next (told s h) e (floor s h) (max c.proposal.round.view (floor s h)) before (omega arith) (λ none. omega arith)
+      by false is before = floor_next (told s h) e (floor s h) (floor s h) before (omega arith) (λ none. absurd (true≢false (sym (blank_told s h none) ∙ is)))
+  floor_told s (judged now view ok ∷ h) = floor_next (told s h) (recorded.judged (round_of s view) ok) (floor s h) (floor s h) (floor_told s h) (omega arith) (λ none. omega arith)
+  floor_told s (voted_notarize view p ∷ h) = floor_next (told s h) (recorded.voted (notarize p)) (floor s h) (floor s h) (floor_told s h) (omega arith) (λ none. omega arith)
+  floor_told s (voted_nullify view ∷ h) = by (past.has_nullified (seen s h view)) (floor_told s h)
+    where
+      e : Entry D
+      e = recorded.voted (nullify (round_of s view))
+
+      by : (b : Bool) → recorded.floor (reverse (told s h)) ≤ floor s h → recorded.floor (reverse (if b then told s h else e ∷ told s h)) ≤ floor s h
+      by true before = before
+      by false before = floor_next (told s h) e (floor s h) (floor s h) before (omega arith) (λ none. omega arith)
+  floor_told s (voted_finalize view p ∷ h) = floor_next (told s h) (recorded.voted (finalize p)) (floor s h) (floor s h) (floor_told s h) (omega arith) (λ none. omega arith)
+  floor_told s (recalled_notarize p taken ∷ h) = floor_next (told s h) (recorded.voted (notarize p)) (floor s h) (floor s h) (floor_told s h) (omega arith) (λ none. omega arith)
+  floor_told s (recalled_nullify view ∷ h) = floor_next (told s h) (recorded.voted (nullify (round_of s view))) (floor s h) (floor s h) (floor_told s h) (omega arith) (λ none. omega arith)
+  floor_told s (recalled_finalize p ∷ h) = floor_next (told s h) (recorded.voted (finalize p)) (floor s h) (floor s h) (floor_told s h) (omega arith) (λ none. omega arith)
+  floor_told s (x ∷ h) = floor_told s h
+
 module _ {D : Type 0} (same : (x y : D) → (x ≡ y) ⊎ (x ≢ y)) where
   -- two proposals are one or differ, where payloads do
   pub same_proposal : (p q : Proposal D) → (p ≡ q) ⊎ (p ≢ q)
@@ -395,7 +457,7 @@ pub each_history_matches : {S D P G C : Type 0} → ((x y : D) → (x ≡ y) ⊎
 each_history_matches {S} {D} {P} {G} {C} same s h orderly = record {
   current = sym (greatest_reverse 1 (enters s.length) (told s h) ∙ (current_told s h ∙ omega (arith, orderly.began)));
   last_finalized = sym last_is;
-  floor = refl;
+  floor = floor_told s h;
   covered = λ view c. let r = nullified_told s h c.0 c.2 in (r.0, subst (λ (u : ℕ). InCoveringRange s.length view u) (sym r.1) c.1, in_reverse (told s h) (recorded.taken (nullify r.0)) r.2);
   own_notarize = λ p voted kept. seen_of (recorded.voted (notarize p)) voted kept;
   own_nullify = λ x voted kept. seen_of (recorded.voted (nullify x)) voted kept;

@@ -12,7 +12,7 @@ use Rattle.voter_history.specs.Held.{held}
 use Rattle.voter_history.specs.Past as past
 use Rattle.voter_history.specs.Past.{Item, offers}
 use Rattle.voter_history.specs.Pasts.{put}
-use Rattle.voter_history.specs.History.{Setup, Point, started, notarized, nullified, finalized, judged, forwarded, built, confirmed, unbound, latched, build_asked, build_released, verify_asked, ancestry_asked, certify_asked, certify_waited, voted_notarize, voted_nullify, voted_finalize, recalled_notarize, recalled_nullify, recalled_finalize, recalled_verdict, sent, polled, pruned, enter, undecided_payload, current, min_active, seen}
+use Rattle.voter_history.specs.History.{Setup, Point, started, based, notarized, nullified, finalized, judged, forwarded, built, confirmed, unbound, latched, build_asked, build_released, verify_asked, ancestry_asked, certify_asked, certify_waited, voted_notarize, voted_nullify, voted_finalize, recalled_notarize, recalled_nullify, recalled_finalize, recalled_verdict, sent, polled, pruned, enter, undecided_payload, current, min_active, seen}
 use Rattle.voter_laws.specs.Matching.{round_of}
 use Rattle.voter_laws.specs.Placing.{AreOfTheirViews, HeldLiesInItsView}
 use Rattle.voter_laws.specs.Steps.{choose_holds, put_holds, enter_holds, bind_holds}
@@ -87,6 +87,7 @@ module _ {S D P G C : Type 0} (s : Setup S C) (view : ℕ) where
       adds at (past.bound p payload) (put at (past.offered offer.verifying) (seen s h)) (λ here. tt) (adds at (past.offered offer.verifying) (seen s h) (λ here. tt) (placed h are.1))
   placed (ancestry_asked at missing ∷ h) are = adds at (past.asked missing) (seen s h) (λ here. tt) (placed h are.1)
   placed (certify_asked at handle ∷ h) are = adds at (past.certifying handle) (seen s h) (λ here. tt) (placed h are.1)
+  placed (based at ∷ h) are = placed h are.1
   placed (certify_waited at ∷ h) are = placed h are.1
   placed (voted_notarize at p ∷ h) are = adds at past.voted_notarize (seen s h) (λ here. tt) (placed h are.1)
   placed (voted_nullify at ∷ h) are = adds at past.voted_nullify (seen s h) (λ here. tt) (placed h are.1)

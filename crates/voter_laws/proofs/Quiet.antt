@@ -9,11 +9,11 @@ use Rattle.voter_history.specs.Held.{Offer}
 use Rattle.voter_history.specs.Past as past
 use Rattle.voter_history.specs.Past.{Item}
 use Rattle.voter_history.specs.Pasts.{put, is_direct}
-use Rattle.voter_history.specs.History.{Setup, Point, latched, polled, sent, voted_nullify, is_marked, was_nullified, current, last_finalized, floor, genesis, seen}
+use Rattle.voter_history.specs.History.{Setup, Point, based, latched, polled, sent, voted_nullify, is_marked, was_nullified, current, last_finalized, floor, genesis, seen}
 use Rattle.voter_history.specs.Leaders.{leader, inherits, named, was_forwarded}
 use Rattle.voter_history.specs.Leading.{HandsOn, leader_named}
 use Rattle.voter_history.specs.Known.{known, backs, waits}
-use Rattle.voter_laws.specs.Matching.{LatchChangesNothing, PollChangesNothing, SendChangesNothing, RepetitionChangesNothing, LeadersAreClosed}
+use Rattle.voter_laws.specs.Matching.{LatchChangesNothing, PollChangesNothing, SendChangesNothing, RepetitionChangesNothing, BaseChangesFloorAlone, LeadersAreClosed}
 use Rattle.voter_laws.proofs.Closed.{closed, inherits_still, still_led}
 
 -- what is known of a view
@@ -78,11 +78,12 @@ module _ {S D P G C : Type 0} where
           (λ v is. sym (ap (λ (f : Facts D). f.has_notarized) (quiet.facts v)) ∙ is) (suc w) passes)
           led
 
-  quiet_known : (s : Setup S C) (h : List (Point S D P G C)) (x : Point S D P G C) → IsQuiet s h x → known s (x ∷ h) ≡ known s h
-  quiet_known s h x quiet = λ i. record {
+  -- the floor alone may be another behind it
+  quiet_but : (s : Setup S C) (h : List (Point S D P G C)) (x : Point S D P G C) → IsQuiet s h x → known s (x ∷ h) ≡ record (known s h) { floor = floor s (x ∷ h) }
+  quiet_but s h x quiet = λ i. record {
     current = quiet.current i;
     last_finalized = quiet.last_finalized i;
-    floor = floor h;
+    floor = floor s (x ∷ h);
     genesis = quiet.genesis i;
     leader = λ u. same_leader s h x quiet u i;
     offers = λ u. ap (λ (f : Facts D). f.offers) (quiet.facts u) i;
@@ -100,6 +101,9 @@ module _ {S D P G C : Type 0} where
     certify_waited = quiet.waited i;
   }
 
+  quiet_known : (s : Setup S C) (h : List (Point S D P G C)) (x : Point S D P G C) → IsQuiet s h x → floor s (x ∷ h) ≡ floor s h → known s (x ∷ h) ≡ known s h
+  quiet_known s h x quiet same = quiet_but s h x quiet ∙ ap (λ (n : ℕ). record (known s h) { floor = n }) same
+
   pub latch_changes_nothing : LatchChangesNothing S D P G C
   latch_changes_nothing s h now view why = quiet_known s h (latched now view why) (record {
     current = refl;
@@ -112,7 +116,7 @@ module _ {S D P G C : Type 0} where
     hands = refl;
     nobody = λ v. refl;
     facts = quiet_put view (past.latched now why) (seen s h) refl;
-  })
+  }) refl
 
   pub poll_changes_nothing : PollChangesNothing S D P G C
   poll_changes_nothing s h now = quiet_known s h (polled now) (record {
@@ -126,7 +130,7 @@ module _ {S D P G C : Type 0} where
     hands = refl;
     nobody = λ v. refl;
     facts = λ v. by (nat_lt 0 (current s h)) v;
-  })
+  }) refl
     where
       by : (b : Bool) (v : ℕ) → facts ((if b then put (current s h) (past.polled (past.deadline now s.timeout_retry)) (seen s h) else seen s h) v) ≡ facts (seen s h v)
       by true v = quiet_put (current s h) (past.polled (past.deadline now s.timeout_retry)) (seen s h) refl v
@@ -144,7 +148,7 @@ module _ {S D P G C : Type 0} where
     hands = refl;
     nobody = λ v. refl;
     facts = quiet_put view past.sent_notarization (seen s h) refl;
-  })
+  }) refl
   send_changes_nothing s h kind.Nullification view = quiet_known s h (sent kind.Nullification view) (record {
     current = refl;
     last_finalized = refl;
@@ -156,7 +160,7 @@ module _ {S D P G C : Type 0} where
     hands = refl;
     nobody = λ v. refl;
     facts = quiet_put view past.sent_nullification (seen s h) refl;
-  })
+  }) refl
   send_changes_nothing s h kind.Finalization view = quiet_known s h (sent kind.Finalization view) (record {
     current = refl;
     last_finalized = refl;
@@ -168,7 +172,7 @@ module _ {S D P G C : Type 0} where
     hands = refl;
     nobody = λ v. refl;
     facts = quiet_put view past.sent_finalization (seen s h) refl;
-  })
+  }) refl
 
   pub repetition_changes_nothing : RepetitionChangesNothing S D P G C
   repetition_changes_nothing s h view voted = quiet_known s h (voted_nullify view) (record {
@@ -182,7 +186,7 @@ module _ {S D P G C : Type 0} where
     hands = refl;
     nobody = λ v. refl;
     facts = quiet_put view past.voted_nullify (seen s h) again;
-  })
+  }) refl
     where
       again : facts (past.voted_nullify ∷ seen s h view) ≡ facts (seen s h view)
       again = λ i. record {
@@ -198,6 +202,20 @@ module _ {S D P G C : Type 0} where
         binding = past.binding (seen s h view);
         certify_asked = past.is_certify_asked (seen s h view);
       }
+
+  pub base_changes_floor_alone : BaseChangesFloorAlone S D P G C
+  base_changes_floor_alone s h view = quiet_but s h (based view) (record {
+    current = refl;
+    last_finalized = refl;
+    genesis = refl;
+    nullified = refl;
+    backed = refl;
+    waited = refl;
+    forwarded = λ v. refl;
+    hands = refl;
+    nobody = λ v. refl;
+    facts = λ v. refl;
+  })
 
   pub leaders_are_closed : LeadersAreClosed S D P G C
   leaders_are_closed s h view i passes led =

@@ -66,6 +66,7 @@ due_may_be_notarized m k r view p matches b due =
     let kept : recorded.IsKept m.retention r p.round.view = rw b.at (kept_in m k r matches view due.kept.1) in
     record {
       room = rw b.at due.room;
+      behind = rw b.at (omega (arith, matches.floor, due.behind));
       first = no_notarize m k r matches p kept (rw b.at due.first);
       not_given_up = no_nullify m k r matches p.round kept (rw b.at due.not_given_up);
       parent_below = rw b.at covers.0;

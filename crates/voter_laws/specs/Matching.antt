@@ -1,5 +1,5 @@
 -- What a voter knows, beside what its record says. Behind that the laws of the voter, as statements.
-use Rattle.std.specs.Prelude.{◌≡◌, ◌≢◌, ◌⊎◌, ◌↔◌, ◌<◌, ◌≤◌, ℕ, Bool, true, false, List, [], ◌∷◌, reverse, Contains, ◌+◌, Some, IsSome, IsTrue, ⊤, if◌then◌else◌}
+use Rattle.std.specs.Prelude.{◌≡◌, ◌≢◌, ◌⊎◌, ◌↔◌, ◌<◌, ◌≤◌, ℕ, Bool, true, false, List, [], ◌∷◌, reverse, Contains, ◌+◌, max, Some, IsSome, IsTrue, ⊤, if◌then◌else◌}
 use Rattle.types_core.specs.declared.position.Round.{Round}
 use Rattle.types_core.specs.declared.proposal.Proposal.{Proposal}
 use Rattle.types_core.specs.Subject.{notarize, nullify, finalize}
@@ -13,7 +13,7 @@ use Rattle.voter_history.specs.declared.timeout_reason.TimeoutReason.{TimeoutRea
 use Rattle.voter_history.specs.declared.timeout_reason.TimeoutReason.TheVariants as reason
 use Rattle.voter_history.specs.Held.{IsTainted, Agrees, held}
 use Rattle.voter_history.specs.Past as past
-use Rattle.voter_history.specs.History.{Setup, Point, notarized, nullified, finalized, judged, built, latched, voted_notarize, voted_nullify, voted_finalize, recalled_notarize, recalled_nullify, recalled_finalize, recalled_verdict, sent, polled, pruned, current, last_finalized, seen}
+use Rattle.voter_history.specs.History.{Setup, Point, notarized, nullified, finalized, judged, built, latched, voted_notarize, voted_nullify, voted_finalize, recalled_notarize, recalled_nullify, recalled_finalize, recalled_verdict, sent, based, polled, pruned, current, last_finalized, floor, seen}
 use Rattle.voter_history.specs.Leaders.{is_in_window, inherits, leader}
 use Rattle.voter_history.specs.Known.{Known, known}
 use Rattle.voter_rules.specs.Ancestry.{Member, member, held_at, IsCovered, InWindow}
@@ -63,13 +63,13 @@ module _ {S D P G C : Type 0} where
     pub verdicts : (view : ℕ) (ok : Bool) → Contains h (recalled_verdict view ok) → (now : ℕ) × Contains h (judged now view ok)
 
 module _ {D : Type 0} (m : Member) where
-  -- what is known is what the record says, as far as votes rest on it: of what covers all that is known is recorded; of the views
-  -- that are kept each recorded vote is known, each known notarization and true verdict is recorded, and where nothing contradicts
-  -- the held proposal it is that of each recorded certificate
+  -- what is known is what the record says, as far as votes rest on it: the record begins behind no view above the known one; of
+  -- what covers all that is known is recorded; of the views that are kept each recorded vote is known, each known notarization and
+  -- true verdict is recorded, and where nothing contradicts the held proposal it is that of each recorded certificate
   pub record Matches (k : Known D) (r : List (Entry D)) : Type 0 where
     pub current : k.current ≡ current_view m.length r
     pub last_finalized : k.last_finalized ≡ recorded.last_finalized r
-    pub floor : k.floor ≡ recorded.floor r
+    pub floor : recorded.floor r ≤ k.floor
     pub covered : (view : ℕ) → IsCovered m k view → recorded.IsCovered m.length r view
     pub own_notarize : (p : Proposal D) → HasVoted r (notarize p) → recorded.IsKept m.retention r p.round.view → k.has_notarized p.round.view ≡ true
     pub own_nullify : (x : Round) → HasVoted r (nullify x) → recorded.IsKept m.retention r x.view → k.has_nullified x.view ≡ true
@@ -175,6 +175,10 @@ module _ (S D P G C : Type 0) where
   abbrev pub RepetitionChangesNothing : Type 0
   RepetitionChangesNothing = (s : Setup S C) (h : List (Point S D P G C)) (view : ℕ)
       → past.has_nullified (seen s h view) ≡ true → known s (voted_nullify view ∷ h) ≡ known s h
+
+  -- that the record begins behind a view changes nothing else of what is known
+  abbrev pub BaseChangesFloorAlone : Type 0
+  BaseChangesFloorAlone = (s : Setup S C) (h : List (Point S D P G C)) (view : ℕ) → known s (based view ∷ h) ≡ record (known s h) { floor = max view (floor s h) }
 
   -- dropping the views that need not be kept changes nothing that is due above the last finalized one
   abbrev pub PruneChangesNothing : Type 0

@@ -1,6 +1,6 @@
 //! What follows from the definitions of what a voter knows, and of what is due by it.
 
-ghost use Rattle.voter_laws.specs.Matching.{DueMayBeNotarized, DueMayBeFinalized, DueMayBeNullified, DueNotarizeIsOnGround, DueVerdictIsOnGround, LatchChangesNothing, ScanChangesNothing, ScanLeavesNothing, LeadersAreClosed, EachHistoryMatches, WhatAgreesIsDueAlike, PruneChangesNothing, PruneKeepsTimeouts, WindowsAgree, PollChangesNothing, SendChangesNothing, RepetitionChangesNothing, ScanGivesUp, ScanLeavesNoReason, WholeScanLeavesNothing};
+ghost use Rattle.voter_laws.specs.Matching.{DueMayBeNotarized, DueMayBeFinalized, DueMayBeNullified, DueNotarizeIsOnGround, DueVerdictIsOnGround, LatchChangesNothing, ScanChangesNothing, ScanLeavesNothing, LeadersAreClosed, EachHistoryMatches, BaseChangesFloorAlone, WhatAgreesIsDueAlike, PruneChangesNothing, PruneKeepsTimeouts, WindowsAgree, PollChangesNothing, SendChangesNothing, RepetitionChangesNothing, ScanGivesUp, ScanLeavesNoReason, WholeScanLeavesNothing};
 ghost use Rattle.voter_laws.specs.Alone.{DueNotarizeIsOnGroundOrNext, DueVerdictOfOneIsOnGround, GroundStays};
 ghost use Rattle.voter_laws.specs.StaysKnown.{PruneKeepsUses, ViewsNeverFall, WhatIsKnownStays};
 ghost use Rattle.voter_laws.specs.Timeouts.{CurrentHasTimeout, CurrentIsSeen, PolledOnceIsPolled, PollKeepsTimeout, TimeoutIsEarliest};
@@ -26,14 +26,15 @@ pub fn what_is_due_stands_on_ground<D: Digest>()
 {}
 
 /// That a view is given up for a reason changes nothing of what is known, so nothing else that is due; nor
-/// does a look at the next timeout, a certificate that is handed out, or a nullify that is voted once more.
-/// And of who leads nothing more is to be learnt: whoever leads a view leads the next one too, where that
-/// inherits.
+/// does a look at the next timeout, a certificate that is handed out, or a nullify that is voted once more; and
+/// that the record begins behind a view changes that alone. Of who leads nothing more is to be learnt: whoever
+/// leads a view leads the next one too, where that inherits.
 pub fn a_latch_changes_nothing_due<S: Scheme<D>, D: Digest>()
     ensures latch { LatchChangesNothing S D S.PublicKey S.Signature S.Certificate }
     ensures poll { PollChangesNothing S D S.PublicKey S.Signature S.Certificate }
     ensures sent { SendChangesNothing S D S.PublicKey S.Signature S.Certificate }
     ensures repetition { RepetitionChangesNothing S D S.PublicKey S.Signature S.Certificate }
+    ensures based { BaseChangesFloorAlone S D S.PublicKey S.Signature S.Certificate }
     ensures leaders { LeadersAreClosed S D S.PublicKey S.Signature S.Certificate }
 {}
 

@@ -34,7 +34,7 @@ fault_number fault.RetryZero = 6
 fault_number fault.RetentionZero = 7
 fault_number fault.TooManyParticipants = 8
 
-module _ {D : Type 0} (c : Config D) (participants : ℕ) where
+module _ {F : Type 0} (c : Config F) (participants : ℕ) where
   -- the fault applies in a committee of so many
   abbrev pub Applies : ConfigFault → Type 0
   Applies fault.NoParticipants = participants ≡ 0

@@ -5,7 +5,7 @@ ghost use Rattle.voter_rules.specs.declared.config.ConfigFault.{ConfigFault};
 ghost use Rattle.voter_rules.specs.declared.config.ForwardPolicy.TheVariants.{Disabled};
 ghost use Rattle.voter_rules.specs.Configuring.{Applies, IsFirst, SkipsWithin, budget_of, fault_number, skip_budget};
 
-use types_core::{Digest, Epoch, ViewDelta};
+use types_core::{Epoch, ViewDelta};
 
 /// How many terms may be skipped since the last finalized view.
 #[derive(Clone, Copy, Debug, Default)]
@@ -88,13 +88,14 @@ impl ForwardPolicy {
     }
 }
 
-/// How a member is set up. Durations are whole milliseconds.
+/// How a member is set up. What it starts from may be a payload of view 0, or a [`Floor`](crate::Floor). Durations are whole
+/// milliseconds.
 #[derive(Drop)]
-pub struct Config<D: Digest> {
+pub struct Config<F> {
     /// The epoch that all its messages are of.
     pub epoch: Epoch,
-    /// The payload that view 0 stands for.
-    pub genesis: D,
+    /// What it starts from.
+    pub floor: F,
     /// How long a leader has for a proposal: above 0.
     pub leader_timeout: u64,
     /// How long a view has for a true verdict: longer than for a proposal.
@@ -150,12 +151,13 @@ impl ConfigFault {
     }
 }
 
-/// The first fault of this configuration in a committee of so many, if there is one.
+/// The first fault of this configuration in a committee of so many, if there is one. What is wrong with a floor that it starts
+/// from [`check_floor`](crate::check_floor) tells.
 ///
 /// # Errors
 ///
 /// That fault.
-pub fn check_config<D: Digest>(config: &Config<D>, participants: u32) -> Result<(), ConfigFault>
+pub fn check_config<F>(config: &Config<F>, participants: u32) -> Result<(), ConfigFault>
     ensures first { IfErr result (λ fault. IsFirst config.now participants fault) }
     ensures good { OnOk result ((fault : ConfigFault) → ¬ Applies config.now participants fault) }
 {

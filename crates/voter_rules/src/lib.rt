@@ -14,6 +14,6 @@ pub mod timing;
 pub mod votes;
 
 pub use certificate_fetch::CertificateFetch;
-pub use floor::Floor;
+pub use floor::{Floor, FloorFault, check_floor};
 pub use laws::{one_payload_is_built_on, one_request_is_due};
 pub use proposal_request::ProposalRequest;

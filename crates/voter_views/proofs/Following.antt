@@ -94,6 +94,7 @@ module _ {S D P G C : Type 0} where
       (λ gone. grind (arith, nat_tests, gone))
       (λ _ _. leader-closed s h u (inherits_from (frame_of s) (tables s h) (suc u) (inherits-kept s h (suc u) (inherits_says (frame_of s) (tables s (History.pruned ∷ h)) (suc u) so))))
   leader-closed s (History.started now payload ∷ h) u so = closed-behind s h (History.started now payload) refl u so
+  leader-closed s (History.based view ∷ h) u so = closed-behind s h (History.based view) refl u so
   leader-closed s (History.notarized c ∷ h) u so = closed-behind s h (History.notarized c) refl u so
   leader-closed s (History.nullified now c ∷ h) u so = closed-behind s h (History.nullified now c) refl u so
   leader-closed s (History.finalized now c ∷ h) u so = closed-behind s h (History.finalized now c) refl u so
@@ -232,7 +233,7 @@ module _ {S D P G C : Type 0} where
         noted = was_forwarded s h;
       }
 
-  pub started-at : (g : Ghosts S D P G C) (x : Tracked S D P G C) (s : Setup S C) (h : List (Point S D P G C)) (now : ℕ) (payload : D) (first led : ℕ) → first ≡ 1 → led ≡ s.elect 1 None
+  pub started-at : (g : Ghosts S D P G C) (x : Tracked S D P G C) (s : Setup S C) (h : List (Point S D P G C)) (now : ℕ) (payload : Option D) (first led : ℕ) → first ≡ 1 → led ≡ s.elect 1 None
       → Holds g (frame_of s) x (started-tables s h now led first) → Holds g (frame_of s) x (tables s (History.started now payload ∷ h))
   started-at g x s h now payload first led e f k =
       let moved : Holds g (frame_of s) x (started-tables s h now (s.elect 1 None) 1) = subst (λ n. Holds g (frame_of s) x (started-tables s h now n 1)) f (subst (λ n. Holds g (frame_of s) x (started-tables s h now led n)) e k) in

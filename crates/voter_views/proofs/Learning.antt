@@ -1,5 +1,5 @@
 -- What the start and certificates leave of the voter.
-use Rattle.std.proofs.Common.{◌≡◌, ◌⊎◌, ◌↔◌, ◌<◌, ◌≤◌, ◌+◌, ◌^◌, ◌==◌, ℕ, suc, List, ◌∷◌, max, inl, inr, ⊎_elim, refl, sym, ap, subst, ◌∙◌, arith}
+use Rattle.std.proofs.Common.{◌≡◌, false, if◌then◌else◌, ◌⊎◌, ◌↔◌, ◌<◌, ◌≤◌, ◌+◌, ◌^◌, ◌==◌, ℕ, suc, List, ◌∷◌, max, inl, inr, ⊎_elim, refl, sym, ap, subst, ◌∙◌, arith}
 use Rattle.std.specs.Prelude.{Option, Some, None, ◌||◌, is_some}
 use Rattle.std.specs.Option.{option_or}
 use Rattle.std.specs.Ordering.{nat_cmp}
@@ -21,6 +21,7 @@ use Rattle.voter_rounds.specs.Laws.{Shows-same, inherits-same, put-fact}
 use Rattle.voter_rounds.specs.Marks.{Shows}
 use Rattle.voter_history.specs.Pasts.{is_direct, put}
 use Rattle.voter_rounds.specs.Tracked.{Tables, Holds, IsClosedAt, inherits_by}
+use Rattle.voter_views.specs.declared.beginning.Beginning.{Beginning}
 use Rattle.voter_views.specs.declared.progress.Progress.{Progress}
 use Rattle.voter_views.specs.declared.views.Views.{Views}
 use Rattle.voter_history.specs.History as History
@@ -32,7 +33,7 @@ use Rattle.voter_views.proofs.Advancing.{IsAt-tracked, grown-tables}
 use Rattle.voter_views.proofs.Choices.{later-max}
 use Rattle.voter_views.proofs.Entering.{enter-fact, is_some-next, nullification-next}
 use Rattle.voter_views.proofs.Following.{finalized-at, finalized-tables, leader-closed, notarized-at, notarized-tables, nullified-at, nullified-tables, started-at, started-tables}
-use Rattle.voter_views.proofs.Stepping.{reached-closed, still-kept}
+use Rattle.voter_views.proofs.Stepping.{based-unled, reached-closed, still-kept, unled-progress}
 use Rattle.voter_views.proofs.Uncovering.{covered-next}
 
 -- the view behind another is none of the first
@@ -120,9 +121,9 @@ module _ {S L D P G C : Type 0} {g : Ghosts S D P G C} {leads : elector.Ghosts L
   pub elected-member : (view : ℕ) (by : Option C) (named : ℕ) → named ≡ s.elect view by → named < g.size s.scheme
   elected-member view by named is = subst (λ n. n < g.size s.scheme) (sym is) (k.members view by)
 
-  pub started-kept : (now : ℕ) (payload : D) (p : Progress S D P G C) (x : Tracked S D P G C) (first named : ℕ) (t : Tables S D P G C) → first ≡ 1 → named ≡ s.elect 1 None
+  pub started-kept : (now : ℕ) (payload : Option D) (p : Progress S D P G C) (x : Tracked S D P G C) (first named : ℕ) (t : Tables S D P G C) → first ≡ 1 → named ≡ s.elect 1 None
       → IsAt g s p (max first (current s h)) t → Holds g (frame_of s) x (started-tables s h now named first)
-      → IsKept g leads s (record v { progress = record p { tracked = x }; genesis = Some payload }) (History.started now payload ∷ h)
+      → IsKept g leads s (record v { progress = record p { tracked = x }; genesis = payload }) (History.started now payload ∷ h)
   started-kept now payload p x first named t e f entered holds = record {
     scheme = k.scheme;
     me = k.me;
@@ -136,6 +137,7 @@ module _ {S L D P G C : Type 0} {g : Ghosts S D P G C} {leads : elector.Ghosts L
     progress = IsAt-tracked {t' = tables s (History.started now payload ∷ h)} (subst (λ n. IsAt g s p (max n (current s h)) t) e entered) (started-at g x s h now payload first named e f holds);
     last_finalized = k.last_finalized;
     behind = k.behind;
+    begun = k.begun;
     genesis = refl;
     coverage = k.coverage;
     backed = k.backed;
@@ -144,18 +146,42 @@ module _ {S L D P G C : Type 0} {g : Ghosts S D P G C} {leads : elector.Ghosts L
     nullifications = λ w. k.nullifications w ∙ ap (λ n. option_or (get nat_cmp v.reaching w) n) (sym (inside-nullification s h now 1 w));
   }
 
-  pub notarized-kept : (c : Notarization S D P G C) (x : Tracked S D P G C) (next named : ℕ) → next ≡ c.proposal.round.view + 1 → named ≡ s.elect next (Some c.certificate)
-      → Holds g (frame_of s) x (notarized-tables s h c named next) → IsKept g leads s (record v { progress = record v.progress { tracked = x } }) (History.notarized c ∷ h)
-  notarized-kept c x next named e f holds = still-kept (History.notarized c) (record v.progress { tracked = x }) v.backed v.waiting k
-      (record { finalizes = refl; begins = refl; covers = λ u. refl; nullifies = λ u. refl; kept_nullification = put-fact past.nullification (past.notarized c) (λ l. refl) c.proposal.round.view (seen s h) })
-      (IsAt-tracked {t' = tables s (History.notarized c ∷ h)} k.progress (notarized-at g x s h c next named e f holds)) k.backed k.waiting
+  -- the voter stands where a floor leads that is named
+  pub based-kept : (view : ℕ) (first : Beginning) → first.floor ≡ max view v.beginning.floor → first.is_blank ≡ v.beginning.is_blank → IsKept g leads s (record v { beginning = first }) (History.based view ∷ h)
+  based-kept view first floor_is blank_is = record {
+    scheme = k.scheme;
+    me = k.me;
+    epoch = k.epoch;
+    length = k.length;
+    optimistic_views = k.optimistic_views;
+    retention = k.retention;
+    mode = k.mode;
+    elects = k.elects;
+    members = k.members;
+    progress = unled-progress (History.based view) v.progress (current s h) (based-unled s h view) k.progress;
+    last_finalized = k.last_finalized;
+    behind = k.behind;
+    begun = (floor_is ∙ (λ i. max view (k.begun.0 i)), blank_is ∙ k.begun.1);
+    genesis = k.genesis;
+    coverage = k.coverage;
+    backed = k.backed;
+    waiting = k.waiting;
+    nullified = k.nullified;
+    nullifications = k.nullifications;
+  }
 
-  pub nullified-kept : (now : ℕ) (c : Nullification S D P G C) (p : Progress S D P G C) (x : Tracked S D P G C) (coverage : Coverage) (marks : Marks) (next named view last : ℕ) (t : Tables S D P G C)
+  pub notarized-kept : (c : Notarization S D P G C) (x : Tracked S D P G C) (first : Beginning) (next named : ℕ) → first.floor ≡ v.beginning.floor → first.is_blank ≡ false → next ≡ c.proposal.round.view + 1 → named ≡ s.elect next (Some c.certificate)
+      → Holds g (frame_of s) x (notarized-tables s h c named next) → IsKept g leads s (record v { progress = record v.progress { tracked = x }; beginning = first }) (History.notarized c ∷ h)
+  notarized-kept c x first next named floor_is blank_is e f holds = still-kept (History.notarized c) (record v.progress { tracked = x }) v.backed v.waiting first k
+      (record { finalizes = refl; begins = refl; covers = λ u. refl; nullifies = λ u. refl; kept_nullification = put-fact past.nullification (past.notarized c) (λ l. refl) c.proposal.round.view (seen s h) })
+      (IsAt-tracked {t' = tables s (History.notarized c ∷ h)} k.progress (notarized-at g x s h c next named e f holds)) k.backed k.waiting (floor_is ∙ k.begun.0, blank_is)
+
+  pub nullified-kept : (now : ℕ) (c : Nullification S D P G C) (p : Progress S D P G C) (x : Tracked S D P G C) (coverage : Coverage) (marks : Marks) (first : Beginning) (next named view last : ℕ) (t : Tables S D P G C) → first.floor ≡ v.beginning.floor → first.is_blank ≡ false
       → next ≡ next_term_start s.length c.round.view → named ≡ s.elect next (Some c.certificate) → IsAt g s p (max next (current s h)) t → Holds g (frame_of s) x (nullified-tables s h now c named next)
       → 0 < s.length → view ≡ c.round.view → last ≡ term_end s.length view → ((w : ℕ) → spans.IsCovered coverage w ↔ (spans.IsCovered v.coverage w ⊎ LiesIn (view, last) w))
       → Shows marks (λ u. (view == u) || is_some (History.nullification s h u))
-      → IsKept g leads s (record v { progress = record p { tracked = x }; coverage = coverage; nullified = marks }) (History.nullified now c ∷ h)
-  nullified-kept now c p x coverage marks next named view last t e f entered holds some at ends covers shows =
+      → IsKept g leads s (record v { progress = record p { tracked = x }; coverage = coverage; nullified = marks; beginning = first }) (History.nullified now c ∷ h)
+  nullified-kept now c p x coverage marks first next named view last t floor_is blank_is e f entered holds some at ends covers shows =
       let end : last ≡ term_end s.length c.round.view = ends ∙ ap (term_end s.length) at in
       record {
         scheme = k.scheme;
@@ -170,6 +196,7 @@ module _ {S L D P G C : Type 0} {g : Ghosts S D P G C} {leads : elector.Ghosts L
         progress = IsAt-tracked {t' = tables s (History.nullified now c ∷ h)} (subst (λ n. IsAt g s p (max n (current s h)) t) e entered) (nullified-at g x s h now c next named e f holds);
         last_finalized = k.last_finalized;
         behind = k.behind;
+        begun = (floor_is ∙ k.begun.0, blank_is);
         genesis = k.genesis;
         coverage = λ w. covered-next s h now c (spans.IsCovered v.coverage w) (spans.IsCovered coverage w) w some
             (subst (λ span. spans.IsCovered coverage w ↔ (spans.IsCovered v.coverage w ⊎ LiesIn span w)) (λ i. (at i, end i)) (covers w)) (k.coverage w);
@@ -180,11 +207,12 @@ module _ {S L D P G C : Type 0} {g : Ghosts S D P G C} {leads : elector.Ghosts L
         nullifications = λ w. nullification-next s (current s h) now (next_term_start s.length c.round.view) c c.round.view (seen s h) (History.nullification s h) (λ u. get nat_cmp v.reaching u) w (k.nullifications w);
       }
 
-  pub finalized-kept : (now : ℕ) (c : Finalization S D P G C) (p : Progress S D P G C) (x : Tracked S D P G C) (next named view last : ℕ) (t : Tables S D P G C)
+  pub finalized-kept : (now : ℕ) (c : Finalization S D P G C) (p : Progress S D P G C) (x : Tracked S D P G C) (first : Beginning) (next named view last : ℕ) (t : Tables S D P G C)
+      → first.floor ≡ (if v.beginning.is_blank then max view v.beginning.floor else v.beginning.floor) → first.is_blank ≡ false
       → next ≡ c.proposal.round.view + 1 → named ≡ s.elect next (Some c.certificate) → IsAt g s p (max next (current s h)) t → Holds g (frame_of s) x (finalized-tables s h now c named next)
       → next < 2 ^ 64 → view ≡ c.proposal.round.view → v.last_finalized ≤ last → view ≤ last → ((u : ℕ) → v.last_finalized ≤ u → view ≤ u → last ≤ u)
-      → IsKept g leads s (record v { progress = record p { tracked = x }; last_finalized = last }) (History.finalized now c ∷ h)
-  finalized-kept now c p x next named view last t e f entered holds fits at one other least =
+      → IsKept g leads s (record v { progress = record p { tracked = x }; last_finalized = last; beginning = first }) (History.finalized now c ∷ h)
+  finalized-kept now c p x first next named view last t floor_is blank_is e f entered holds fits at one other least =
       let seen_at : ℕ = c.proposal.round.view in
       record {
         scheme = k.scheme;
@@ -199,6 +227,7 @@ module _ {S L D P G C : Type 0} {g : Ghosts S D P G C} {leads : elector.Ghosts L
         progress = IsAt-tracked {t' = tables s (History.finalized now c ∷ h)} (subst (λ n. IsAt g s p (max n (current s h)) t) e entered) (finalized-at g x s h now c next named e f holds);
         last_finalized = later-max v.last_finalized view last one other least ∙ (λ i. max (at i) (k.last_finalized i));
         behind = max-fits seen_at (History.last_finalized h) (subst (λ n. n < 2 ^ 64) e fits) k.behind;
+        begun = (floor_is ∙ (λ i. if k.begun.1 i then max (at i) (k.begun.0 i) else k.begun.0 i), blank_is);
         genesis = k.genesis;
         coverage = k.coverage;
         backed = k.backed;

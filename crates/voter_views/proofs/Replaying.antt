@@ -15,6 +15,8 @@ use Rattle.voter_history.specs.Past.{Item, has_notarized}
 use Rattle.messages_certificates.specs.ProposalVote.{Notarize}
 use Rattle.voter_rounds.specs.declared.marks.Marks.{Marks}
 use Rattle.voter_rounds.specs.declared.tracked.Tracked.{Tracked}
+use Rattle.voter_views.specs.Beginning.{IsBegun, tells}
+use Rattle.voter_views.specs.declared.beginning.Beginning.{Beginning}
 use Rattle.voter_views.specs.declared.views.Views.{Views}
 use Rattle.voter_history.specs.History as History
 use Rattle.voter_history.specs.Pasts.{bind, is_direct, put}
@@ -115,13 +117,14 @@ module _ {S L D P G C : Type 0} {g : Ghosts S D P G C} {leads : elector.Ghosts L
       )
 
   -- the voter stands where the own notarize leads
-  pub recalled-notarize : (p : Proposal D) (taken : Bool) (x : Tracked S D P G C) (marks : Marks) → IsKept g leads s v h
+  pub recalled-notarize : (p : Proposal D) (taken : Bool) (x : Tracked S D P G C) (marks : Marks) (first : Beginning) → IsKept g leads s v h
       → Holds g (frame_of s) x (tables s (History.recalled_notarize p taken ∷ h)) → Shows marks (is_marked s backs (History.recalled_notarize p taken ∷ h))
-      → IsKept g leads s (record v { progress = record v.progress { tracked = x }; backed = marks }) (History.recalled_notarize p taken ∷ h)
-  recalled-notarize p taken x marks k holds backed = still-kept (History.recalled_notarize p taken) (record v.progress { tracked = x }) marks v.waiting k
+      → first.floor ≡ v.beginning.floor → first.is_blank ≡ false
+      → IsKept g leads s (record v { progress = record v.progress { tracked = x }; backed = marks; beginning = first }) (History.recalled_notarize p taken ∷ h)
+  recalled-notarize p taken x marks first k holds backed floor_is blank_is = still-kept (History.recalled_notarize p taken) (record v.progress { tracked = x }) marks v.waiting first k
       (record { finalizes = refl; begins = refl; covers = λ u. refl; nullifies = λ u. refl; kept_nullification = recalled-nullification s h p taken })
       (IsAt-tracked {t' = tables s (History.recalled_notarize p taken ∷ h)} k.progress holds)
-      backed k.waiting
+      backed k.waiting (floor_is ∙ k.begun.0, blank_is)
 
 module _ {S D P G C : Type 0} where
   -- an artifact is no own notarize
@@ -150,6 +153,16 @@ module _ {S D P G C : Type 0} (s : Setup S C) (h : List (Point S D P G C)) where
   recalled_finalize-quiet : (p : Proposal D) → IsQuiet s h (History.recalled_finalize p)
   recalled_finalize-quiet p = quiet-from s h (History.recalled_finalize p) (refl, refl, λ u. refl, λ u. refl, λ u. refl, λ u. refl, λ u. refl, refl, λ u. refl)
       (like-put s h p.round.view past.voted_finalize (seen s h) (λ l. refl, λ l. refl, λ l. refl) (like-seen s h))
+
+  -- where the record begins, behind such an artifact
+  pub other-begun : (a : Artifact S D P G C) → IsOther a → (taken : Bool) (b first : Beginning) → first.floor ≡ b.floor → first.is_blank ≡ (if tells a then false else b.is_blank) → IsBegun s b h → IsBegun s first (recalls taken a ∷ h)
+  other-begun (artifact.Notarize v) other taken b first floor_is blank_is begun = absurd other
+  other-begun (artifact.Notarization c) other taken b first floor_is blank_is begun = (floor_is ∙ begun.0, blank_is ∙ begun.1)
+  other-begun (artifact.Certification round ok) other taken b first floor_is blank_is begun = (floor_is ∙ begun.0, blank_is ∙ begun.1)
+  other-begun (artifact.Nullify v) other taken b first floor_is blank_is begun = (floor_is ∙ begun.0, blank_is)
+  other-begun (artifact.Nullification c) other taken b first floor_is blank_is begun = (floor_is ∙ begun.0, blank_is ∙ begun.1)
+  other-begun (artifact.Finalize v) other taken b first floor_is blank_is begun = (floor_is ∙ begun.0, blank_is)
+  other-begun (artifact.Finalization c) other taken b first floor_is blank_is begun = (floor_is ∙ begun.0, blank_is ∙ begun.1)
 
   -- what such an artifact leaves is what its point does
   pub other-quiet : (a : Artifact S D P G C) → IsOther a → (taken : Bool) → IsQuiet s h (recalls taken a)

@@ -1,6 +1,7 @@
 -- A point that changes little but what happened to views.
 use Rattle.std.proofs.Common.{◌≡◌, ◌⊎◌, ◌<◌, ◌+◌, ◌-◌, ◌^◌, ◌==◌, ℕ, suc, true, false, ⊎_elim, List, ◌∷◌, refl, sym, ap, subst, ◌∙◌, arith, if◌then◌else◌}
-use Rattle.std.specs.Prelude.{Option, Some, None, Bool, MatchOption, is_some, max, nat_le, nat_lt, ◌||◌}
+use Rattle.std.specs.Prelude.{Option, Some, None, Bool, MatchOption, is_some, max, nat_le, nat_lt, unwrap_or, ◌&&◌, ◌||◌}
+use Rattle.std.proofs.lemmas.Option.{none-some, same_Some}
 use Rattle.std.specs.Option.{option_or}
 use Rattle.std.specs.Ordering.{nat_cmp}
 use Rattle.std.specs.BTreeMap.{get}
@@ -19,6 +20,8 @@ use Rattle.voter_history.specs.Past.{Item, has_notarized, has_nullified}
 use Rattle.voter_rounds.specs.declared.marks.Marks.{Marks}
 use Rattle.voter_rounds.specs.declared.notice.Notice.{Notice}
 use Rattle.voter_rounds.specs.declared.notice.Notice.TheVariants as notice
+use Rattle.voter_views.specs.Beginning.{IsBegun}
+use Rattle.voter_views.specs.declared.beginning.Beginning.{Beginning}
 use Rattle.voter_views.specs.declared.progress.Progress.{Progress}
 use Rattle.voter_rounds.specs.declared.tracked.Tracked.{Tracked}
 use Rattle.voter_views.specs.declared.views.Views.{Views}
@@ -109,6 +112,10 @@ module _ {S D P G C : Type 0} (s : Setup S C) (h : List (Point S D P G C)) where
   pub waited-unled : (view : ℕ) → IsUnled (History.certify_waited view)
   waited-unled view = record { notes = λ u. refl; leads = refl; nobody = λ u. refl; certificates = λ u. refl; votes = λ u. refl }
 
+  -- nor does a floor that is named
+  pub based-unled : (view : ℕ) → IsUnled (History.based view)
+  based-unled view = record { notes = λ u. refl; leads = refl; nobody = λ u. refl; certificates = λ u. refl; votes = λ u. refl }
+
   -- nor does an own notarize finalize or cover anything
   pub notarize-still : (view : ℕ) (p : Proposal D) → IsStill (History.voted_notarize view p)
   notarize-still view p = record { finalizes = refl; begins = refl; covers = λ u. refl; nullifies = λ u. refl; kept_nullification = put-fact past.nullification past.voted_notarize (λ l. refl) view (seen s h) }
@@ -167,6 +174,12 @@ module _ {S D P G C : Type 0} (s : Setup S C) (h : List (Point S D P G C)) where
   noticed-seen view notice.BuildReleased = refl
   noticed-seen view (notice.AncestryAsked missing) = refl
   noticed-seen view (notice.CertifyAsked handle) = refl
+
+  pub noticed-begun : (view : ℕ) (n : Notice) (b : Beginning) → IsBegun s b h → IsBegun s b (noticed view n ∷ h)
+  noticed-begun view notice.Unbound b begun = begun
+  noticed-begun view notice.BuildReleased b begun = begun
+  noticed-begun view (notice.AncestryAsked missing) b begun = begun
+  noticed-begun view (notice.CertifyAsked handle) b begun = begun
 
   pub noticed-stays : (view : ℕ) (n : Notice) → current s (noticed view n ∷ h) ≡ current s h
   noticed-stays view notice.Unbound = refl
@@ -270,9 +283,10 @@ module _ {S D P G C : Type 0} {g : Ghosts S D P G C} {s : Setup S C} {h : List (
 
 module _ {S L D P G C : Type 0} {g : Ghosts S D P G C} {leads : elector.Ghosts L S D P G C} {s : Setup S C} {v : Views S L D P G C} {h : List (Point S D P G C)} where
   -- the voter is where a still point leads, if its progress and its marks are
-  pub still-kept : (x : Point S D P G C) (p : Progress S D P G C) (backed waiting : Marks) → IsKept g leads s v h → IsStill s h x → IsAt g s p (current s (x ∷ h)) (tables s (x ∷ h))
-      → Shows backed (is_marked s backs (x ∷ h)) → Shows waiting (is_marked s waits (x ∷ h)) → IsKept g leads s (record v { progress = p; backed = backed; waiting = waiting }) (x ∷ h)
-  still-kept x p backed waiting k q at backs_are waits_are = record {
+  pub still-kept : (x : Point S D P G C) (p : Progress S D P G C) (backed waiting : Marks) (first : Beginning) → IsKept g leads s v h → IsStill s h x → IsAt g s p (current s (x ∷ h)) (tables s (x ∷ h))
+      → Shows backed (is_marked s backs (x ∷ h)) → Shows waiting (is_marked s waits (x ∷ h)) → IsBegun s first (x ∷ h)
+      → IsKept g leads s (record v { progress = p; backed = backed; waiting = waiting; beginning = first }) (x ∷ h)
+  still-kept x p backed waiting first k q at backs_are waits_are begun = record {
     scheme = k.scheme;
     me = k.me;
     epoch = k.epoch;
@@ -285,6 +299,7 @@ module _ {S L D P G C : Type 0} {g : Ghosts S D P G C} {leads : elector.Ghosts L
     progress = at;
     last_finalized = k.last_finalized ∙ sym q.finalizes;
     behind = subst (λ n. n + 1 < 2 ^ 64) (sym q.finalizes) k.behind;
+    begun = begun;
     genesis = k.genesis ∙ sym q.begins;
     coverage = λ u. (
       λ is. let there = (k.coverage u).0 is in (there.0, there.1, q.covers there.0 ∙ there.2),
@@ -297,20 +312,22 @@ module _ {S L D P G C : Type 0} {g : Ghosts S D P G C} {leads : elector.Ghosts L
   }
 
   -- the voter is where a quiet point leads, if its progress is
-  pub quiet-progress : (x : Point S D P G C) (p : Progress S D P G C) → IsKept g leads s v h → IsQuiet s h x → IsAt g s p (current s (x ∷ h)) (stepped s h x)
-      → IsKept g leads s (record v { progress = p }) (x ∷ h)
-  quiet-progress x p k q at = still-kept x p v.backed v.waiting k q.still (unled-progress x p (current s (x ∷ h)) q.unled at) (Shows-same v.backed (is_marked s backs h) (is_marked s backs (x ∷ h)) k.backed q.backs_none) (Shows-same v.waiting (is_marked s waits h) (is_marked s waits (x ∷ h)) k.waiting q.waits_none)
+  pub quiet-progress : (x : Point S D P G C) (p : Progress S D P G C) (first : Beginning) → IsKept g leads s v h → IsQuiet s h x → IsAt g s p (current s (x ∷ h)) (stepped s h x) → IsBegun s first (x ∷ h)
+      → IsKept g leads s (record v { progress = p; beginning = first }) (x ∷ h)
+  quiet-progress x p first k q at begun = still-kept x p v.backed v.waiting first k q.still (unled-progress x p (current s (x ∷ h)) q.unled at) (Shows-same v.backed (is_marked s backs h) (is_marked s backs (x ∷ h)) k.backed q.backs_none) (Shows-same v.waiting (is_marked s waits h) (is_marked s waits (x ∷ h)) k.waiting q.waits_none) begun
 
   -- the same, where the current view stays
-  pub quiet : (x : Point S D P G C) (y : Tracked S D P G C) → IsKept g leads s v h → IsQuiet s h x → current s (x ∷ h) ≡ current s h → Holds g (frame_of s) y (grown-tables s h (seen s (x ∷ h)))
-      → IsKept g leads s (record v { progress = record v.progress { tracked = y } }) (x ∷ h)
-  quiet x y k q stays holds = quiet-progress x (record v.progress { tracked = y }) k q
+  pub quiet : (x : Point S D P G C) (y : Tracked S D P G C) (first : Beginning) → IsKept g leads s v h → IsQuiet s h x → current s (x ∷ h) ≡ current s h → Holds g (frame_of s) y (grown-tables s h (seen s (x ∷ h))) → IsBegun s first (x ∷ h)
+      → IsKept g leads s (record v { progress = record v.progress { tracked = y }; beginning = first }) (x ∷ h)
+  quiet x y first k q stays holds begun = quiet-progress x (record v.progress { tracked = y }) first k q
       (subst (λ n. IsAt g s (record v.progress { tracked = y }) n (stepped s h x)) (sym stays)
       (IsAt-tracked k.progress (Holds-noted g (frame_of s) y (grown-tables s h (seen s (x ∷ h))) (was_forwarded s (x ∷ h)) holds q.unled.notes)))
+      begun
 
   -- nothing happened, though the views were looked at
-  pub unmoved : (y : Tracked S D P G C) → IsKept g leads s v h → Holds g (frame_of s) y (tables s h) → IsKept g leads s (record v { progress = record v.progress { tracked = y } }) h
-  unmoved y k holds = record {
+  unmoved-from : (y : Tracked S D P G C) (first : Beginning) → IsKept g leads s v h → Holds g (frame_of s) y (tables s h) → IsBegun s first h
+      → IsKept g leads s (record v { progress = record v.progress { tracked = y }; beginning = first }) h
+  unmoved-from y first k holds begun = record {
     scheme = k.scheme;
     me = k.me;
     epoch = k.epoch;
@@ -323,6 +340,7 @@ module _ {S L D P G C : Type 0} {g : Ghosts S D P G C} {leads : elector.Ghosts L
     progress = IsAt-tracked k.progress holds;
     last_finalized = k.last_finalized;
     behind = k.behind;
+    begun = begun;
     genesis = k.genesis;
     coverage = k.coverage;
     backed = k.backed;
@@ -331,18 +349,41 @@ module _ {S L D P G C : Type 0} {g : Ghosts S D P G C} {leads : elector.Ghosts L
     nullifications = k.nullifications;
   }
 
-  -- a point that is added where something says so
-  pub quiet-if : (b : Bool) (x : Point S D P G C) (y : Tracked S D P G C) → IsKept g leads s v h → IsQuiet s h x → current s (x ∷ h) ≡ current s h
-      → Holds g (frame_of s) y (grown-tables s h (if b then seen s (x ∷ h) else seen s h)) → IsKept g leads s (record v { progress = record v.progress { tracked = y } }) (if b then x ∷ h else h)
-  quiet-if true x y k q stays holds = quiet x y k q stays holds
-  quiet-if false x y k q stays holds = unmoved y k holds
+  pub unmoved : (y : Tracked S D P G C) → IsKept g leads s v h → Holds g (frame_of s) y (tables s h) → IsKept g leads s (record v { progress = record v.progress { tracked = y } }) h
+  unmoved y k holds = unmoved-from y v.beginning k holds k.begun
 
-  -- a point that is added where something says which
-  pub quiet-option : {A : Type 0} (o : Option A) (x : A → Point S D P G C) (grown : ℕ → List (Item S D P G C)) (y : Tracked S D P G C) → IsKept g leads s v h → ((a : A) → IsQuiet s h (x a))
+  -- a point that is added where something says so, and of which nothing is recorded
+  pub quiet-if : (b : Bool) (x : Point S D P G C) (y : Tracked S D P G C) → IsKept g leads s v h → IsQuiet s h x → current s (x ∷ h) ≡ current s h
+      → Holds g (frame_of s) y (grown-tables s h (if b then seen s (x ∷ h) else seen s h)) → IsBegun s v.beginning (x ∷ h)
+      → IsKept g leads s (record v { progress = record v.progress { tracked = y } }) (if b then x ∷ h else h)
+  quiet-if true x y k q stays holds begun = quiet x y v.beginning k q stays holds begun
+  quiet-if false x y k q stays holds begun = unmoved y k holds
+
+  -- a nullify that is recorded where one was voted that is no repetition
+  pub nullify-if : (voted : Option Bool) (view : ℕ) (y : Tracked S D P G C) (first : Beginning) → IsKept g leads s v h → IsQuiet s h (History.voted_nullify view)
+      → voted ≡ (if past.has_finalized (seen s h view) then None else Some (has_nullified (seen s h view)))
+      → Holds g (frame_of s) y (grown-tables s h (if is_some voted then seen s (History.voted_nullify view ∷ h) else seen s h))
+      → first.floor ≡ v.beginning.floor → first.is_blank ≡ (unwrap_or voted true && v.beginning.is_blank)
+      → IsKept g leads s (record v { progress = record v.progress { tracked = y }; beginning = first }) (if is_some voted then History.voted_nullify view ∷ h else h)
+  nullify-if None view y first k q is holds floor_is blank_is = unmoved-from y first k holds (floor_is ∙ k.begun.0, blank_is ∙ k.begun.1)
+  nullify-if (Some again) view y first k q is holds floor_is blank_is =
+      let same : again ≡ has_nullified (seen s h view) = by (past.has_finalized (seen s h view)) is in
+      quiet (History.voted_nullify view) y first k q refl holds (floor_is ∙ k.begun.0, blank_is ∙ (λ i. same i && k.begun.1 i))
+    where
+      by : (b : Bool) → Some again ≡ (if b then None else Some (has_nullified (seen s h view))) → again ≡ has_nullified (seen s h view)
+      by true none = absurd (none-some again (sym none))
+      by false some = same_Some again (has_nullified (seen s h view)) some
+
+  -- a point that is added and recorded where something says which
+  pub quiet-option : {A : Type 0} (o : Option A) (x : A → Point S D P G C) (grown : ℕ → List (Item S D P G C)) (y : Tracked S D P G C) (first : Beginning) → IsKept g leads s v h → ((a : A) → IsQuiet s h (x a))
       → ((a : A) → current s (x a ∷ h) ≡ current s h) → ((a : A) → grown ≡ seen s (x a ∷ h)) → Holds g (frame_of s) y (grown-tables s h (if is_some o then grown else seen s h))
-      → MatchOption o (IsKept g leads s (record v { progress = record v.progress { tracked = y } }) h) (λ a. IsKept g leads s (record v { progress = record v.progress { tracked = y } }) (x a ∷ h))
-  quiet-option None x grown y k q stays same holds = unmoved y k holds
-  quiet-option (Some a) x grown y k q stays same holds = quiet (x a) y k (q a) (stays a) (subst (λ t. Holds g (frame_of s) y (grown-tables s h t)) (same a) holds)
+      → first.floor ≡ v.beginning.floor → first.is_blank ≡ (if is_some o then false else v.beginning.is_blank)
+      → ((a : A) → (History.floor s h ≡ History.floor s (x a ∷ h)) × (false ≡ History.is_blank s (x a ∷ h)))
+      → MatchOption o (IsKept g leads s (record v { progress = record v.progress { tracked = y }; beginning = first }) h)
+      (λ a. IsKept g leads s (record v { progress = record v.progress { tracked = y }; beginning = first }) (x a ∷ h))
+  quiet-option None x grown y first k q stays same holds floor_is blank_is tells = unmoved-from y first k holds (floor_is ∙ k.begun.0, blank_is ∙ k.begun.1)
+  quiet-option (Some a) x grown y first k q stays same holds floor_is blank_is tells =
+      quiet (x a) y first k (q a) (stays a) (subst (λ t. Holds g (frame_of s) y (grown-tables s h t)) (same a) holds) (floor_is ∙ k.begun.0 ∙ (tells a).0, blank_is ∙ (tells a).1)
 
 module _ {S D P G C : Type 0} {g : Ghosts S D P G C} (s : Setup S C) (h : List (Point S D P G C)) where
   -- a true verdict enters the next view

@@ -1,3 +1,4 @@
 pub mod ShowsKnown
 pub mod Progress
+pub mod Beginning
 pub mod Views

@@ -19,6 +19,7 @@ use Rattle.voter_rounds.specs.declared.notice.Notice.TheVariants as notice
 use Rattle.voter_rules.specs.declared.config.Config.{Config}
 use Rattle.voter_rules.specs.Configuring.{skip_budget}
 use Rattle.voter_views.specs.declared.views.Views.{Views}
+use Rattle.voter_views.specs.Beginning.{IsBegun}
 use Rattle.voter_history.specs.History as History
 use Rattle.voter_history.specs.History.{Setup, Point, unbound, build_released, ancestry_asked, certify_asked, recalled_notarize, recalled_nullify, recalled_finalize, recalled_verdict, sent, current, last_finalized, min_active, genesis, is_marked, seen, was_nullified, nullification}
 use Rattle.voter_history.specs.Known.{backs, waits}
@@ -84,8 +85,8 @@ module _ {S D P G C : Type 0} where
   kept_from first floor kept x view = if nat_lt view floor then option_or kept (if nat_lt view first then None else past.nullification x) else kept
 
 module _ {S L D P G C : Type 0} where
-  -- the setup of a voter that was built so
-  abbrev pub built : Ghosts S D P G C → elector.Ghosts L S D P G C → S → L → Config D → Setup S C
+  -- the setup of a voter that was built so, whatever it starts from
+  abbrev pub built : {F : Type 0} → Ghosts S D P G C → elector.Ghosts L S D P G C → S → L → Config F → Setup S C
   built g e scheme l c = record {
     scheme = scheme;
     me = g.own scheme;
@@ -115,6 +116,7 @@ module _ {S L D P G C : Type 0} where
     pub progress : IsAt g s v.progress (current s h) (tables s h)
     pub last_finalized : v.last_finalized ≡ last_finalized h
     pub behind : History.last_finalized h + 1 < 2 ^ 64
+    pub begun : IsBegun s v.beginning h
     pub genesis : v.genesis ≡ genesis h
     pub coverage : (view : ℕ) → spans.IsCovered v.coverage view ↔ IsCovered s h view
     pub backed : Shows v.backed (is_marked s backs h)

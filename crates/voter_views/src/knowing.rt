@@ -94,7 +94,7 @@ impl<S: Scheme<D> + Drop, L: Elector<S, D>, D: Digest> Knowledge<D> for Views<S,
     }
 
     fn floor(&self) -> View {
-        View::zero()
+        self.floor()
     }
 
     fn retains(&self, view: View) -> bool {

@@ -19,11 +19,12 @@ ghost use Rattle.simplex_round.specs.Round as one;
 ghost use Rattle.voter_rounds.specs.Marks.{Shows};
 ghost use Rattle.voter_history.specs.Pasts.{bears};
 ghost use Rattle.voter_rounds.specs.Rounds.{AreUntracked, IsFirstTracked};
-ghost use Rattle.voter_history.specs.History.{current, last_finalized, min_active, nullification, scheduled_leader, seen};
+ghost use Rattle.voter_history.specs.History.{current, floor, last_finalized, min_active, nullification, scheduled_leader, seen};
 ghost use Rattle.voter_history.specs.Leaders.{handoff_leader, leader};
 ghost use Rattle.voter_rules.specs.GivingUp.{IsTracked};
 ghost use Rattle.voter_views.specs.Views.{Keeps, AtEach, built, IsHighestCovering, noticed, round_of};
 
+use crate::beginning::Beginning;
 use crate::progress::Progress;
 use messages_certificates::{Finalization, Notarization, Nullification};
 use simplex_record::Coverage;
@@ -49,6 +50,8 @@ pub struct Views<S: Scheme<D>, L: Elector<S, D>, D: Digest> {
     retention: ViewDelta,
     progress: Progress<S, D>,
     last_finalized: View,
+    /// Where the member's record begins.
+    beginning: Beginning,
     pub(crate) genesis: Option<D>,
     /// What was ever covered.
     pub(crate) coverage: Coverage,
@@ -68,11 +71,11 @@ impl<S: Scheme<D> + Drop, L: Elector<S, D>, D: Digest> Views<S, L, D> {
     /// # Errors
     ///
     /// `AllocError` where memory ran out.
-    pub fn new(
+    pub fn new<F>(
         alloc: Global,
         scheme: Rc<S>,
         elector: L,
-        config: &Config<D>,
+        config: &Config<F>,
     ) -> Result<Self, AllocError>
         requires { L.built_for elector (S.size scheme.value) }
         ensures { IfOk result (λ v. Keeps S.Scheme L.Elector (built S.Scheme L.Elector scheme.value elector config.now) v []) }
@@ -94,6 +97,7 @@ impl<S: Scheme<D> + Drop, L: Elector<S, D>, D: Digest> Views<S, L, D> {
                 tracked,
             },
             last_finalized: View::zero(),
+            beginning: Beginning::new(),
             genesis: None,
             coverage: Coverage::new(alloc),
             backed: Marks::new(alloc),
@@ -116,6 +120,13 @@ impl<S: Scheme<D> + Drop, L: Elector<S, D>, D: Digest> Views<S, L, D> {
         ensures behind { AtEach S.Scheme L.Elector self.now (λ s h. result + 1 < 2 ^ 64) }
     {
         self.last_finalized
+    }
+
+    /// The view that the member's record begins behind, or 0.
+    pub fn floor(&self) -> View
+        ensures { AtEach S.Scheme L.Elector self.now (λ s h. result ≡ floor s h) }
+    {
+        self.beginning.floor
     }
 
     /// Which views are kept and listened to.

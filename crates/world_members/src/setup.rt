@@ -33,7 +33,7 @@ fn length_of(times: &Times) -> u32
 pub fn config_of(times: &Times) -> Config<Sha256Digest> {
     Config {
         epoch: Epoch::zero(),
-        genesis: genesis(),
+        floor: genesis(),
         leader_timeout: times.leader,
         certification_timeout: times.certification,
         timeout_retry: times.retry,

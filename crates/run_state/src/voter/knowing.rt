@@ -74,6 +74,10 @@ impl<S: Committee + Scheme<Sha256Digest, PublicKey = PlainKey>, L: Elector<S, Sh
             "try_verify" => wanted(say, &self.state.try_verify(number)?),
             "next_timeout" => timeout(say, self.state.next_timeout(number)?),
             "is_me" => self.is_me(number, say),
+            "begin" => {
+                self.state.begin(number)?;
+                say.ok()
+            }
             _ => self.course(name, View::new(number), say),
         }
     }
@@ -101,7 +105,7 @@ impl<S: Committee + Scheme<Sha256Digest, PublicKey = PlainKey>, L: Elector<S, Sh
         }
     }
 
-    /// What is kept of a view.
+    /// What is kept of a view; and that the record begins behind it.
     fn kept(&mut self, name: &str, view: View, say: &mut Say) -> Result<(), Trouble> {
         match name {
             "notarization" => say.notarization_or(self.state.views().notarization(view)),
@@ -113,6 +117,10 @@ impl<S: Committee + Scheme<Sha256Digest, PublicKey = PlainKey>, L: Elector<S, Sh
             "pending_verification" => say.proposal_or(Knowledge::<
                 Sha256Digest,
             >::pending_verification(self.state.views(), view)),
+            "base" => {
+                self.state.base(view);
+                say.ok()
+            }
             _ => self.sent(name, view, say),
         }
     }

@@ -28,6 +28,14 @@ impl<S: Committee + Scheme<Sha256Digest, PublicKey = PlainKey>, L: Elector<S, Sh
             "try_propose" => request(say, self.state.try_propose()),
             "certify_candidates" => self.candidates(say),
             "prune" => self.pruned(say),
+            _ => self.floored_at(name, say),
+        }
+    }
+
+    /// The view that the record begins behind.
+    fn floored_at(&self, name: &str, say: &mut Say) -> Result<(), Trouble> {
+        match name {
+            "floor" => say.view(self.state.floor()),
             _ => Err(Trouble::Unreadable),
         }
     }

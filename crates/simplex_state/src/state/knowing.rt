@@ -2,7 +2,7 @@
 
 ghost use Rattle.std.specs.Prelude.{◌≡◌, ◌↔◌, ◌+◌, ◌<◌, ◌^◌, Some, IsTrue};
 ghost use Rattle.voter_history.specs.Past as past;
-ghost use Rattle.voter_history.specs.History.{current, last_finalized, seen};
+ghost use Rattle.voter_history.specs.History.{current, floor, last_finalized, seen};
 ghost use Rattle.voter_history.specs.Known.{known};
 ghost use Rattle.voter_rules.specs.Ancestry.{explicit, member};
 ghost use Rattle.simplex_state.specs.State.{AtEach, Keeps};
@@ -26,6 +26,13 @@ impl<S: Scheme<D> + Drop, L: Elector<S, D>, D: Digest> State<S, L, D> {
         ensures behind { AtEach S.Scheme L.Elector self.now (λ s h. result + 1 < 2 ^ 64) }
     {
         self.views.last_finalized()
+    }
+
+    /// The view that the member's record begins behind, or 0.
+    pub fn floor(&self) -> View
+        ensures { AtEach S.Scheme L.Elector self.now (λ s h. result ≡ floor s h) }
+    {
+        self.views.floor()
     }
 
     /// Whether this member gave the view up.

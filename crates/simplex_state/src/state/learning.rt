@@ -1,11 +1,11 @@
 //! What a voter learns: the start, certificates, verdicts, and what leaders propose.
 
-ghost use Rattle.std.specs.Prelude.{◌≡◌, ◌↔◌, ◌&&◌, if◌then◌else◌, false, true, ◌∷◌, None, IsTrue, IfOk, OnOk, is_some, option_map};
+ghost use Rattle.std.specs.Prelude.{◌≡◌, ◌↔◌, ◌&&◌, if◌then◌else◌, false, true, ◌∷◌, None, Some, IsTrue, IfOk, OnOk, is_some, option_map};
 ghost use Rattle.types_core.specs.Positions.{HasRoom};
 ghost use Rattle.voter_history.specs.Held.{held, Agrees, Differs};
 ghost use Rattle.voter_history.specs.Past.{offers, has_nullified};
 ghost use Rattle.voter_history.specs.Past as past;
-ghost use Rattle.voter_history.specs.History.{started, notarized, nullified, finalized, judged, forwarded, nullification, seen};
+ghost use Rattle.voter_history.specs.History.{started, based, notarized, nullified, finalized, judged, forwarded, nullification, seen};
 ghost use Rattle.voter_history.specs.Leaders.{leader};
 ghost use Rattle.simplex_state.specs.State.{AtEach, Keeps};
 
@@ -17,16 +17,42 @@ use types_core::{Digest, Proposal, Scheme, View, Viewable};
 use types_terms::Elector;
 
 impl<S: Scheme<D> + Drop, L: Elector<S, D>, D: Digest> State<S, L, D> {
-    /// Starts on this payload, and enters view 1.
+    /// Starts on this payload of view 0, and enters view 1.
     ///
     /// # Errors
     ///
     /// `AllocError` where memory ran out.
     pub fn set_genesis(&mut self, now: u64, payload: D) -> Result<(), AllocError>
+        ensures { OnOk result (AtEach S.Scheme L.Elector self.old (λ s h. Keeps S.Scheme L.Elector s self.new (started now (Some payload) ∷ h))) }
+    {
+        self.start(now, Some(payload))
+    }
+
+    /// Starts where the payload of view 0 isn't known, and enters view 1. Nothing is built on view 0 then.
+    ///
+    /// # Errors
+    ///
+    /// `AllocError` where memory ran out.
+    pub fn begin(&mut self, now: u64) -> Result<(), AllocError>
+        ensures { OnOk result (AtEach S.Scheme L.Elector self.old (λ s h. Keeps S.Scheme L.Elector s self.new (started now None ∷ h))) }
+    {
+        self.start(now, None)
+    }
+
+    /// Starts on the payload of view 0, where it is known.
+    fn start(&mut self, now: u64, payload: Option<D>) -> Result<(), AllocError>
         ensures { OnOk result (AtEach S.Scheme L.Elector self.old (λ s h. Keeps S.Scheme L.Elector s self.new (started now payload ∷ h))) }
     {
         wake(&mut self.candidates, View::zero())?;
-        self.views.set_genesis(now, payload)
+        self.views.start(now, payload)
+    }
+
+    /// Takes it that the member's record begins behind this view, since it was rewritten; where one above was named before, or is
+    /// that of its first entry, behind that. No notarize of a view at or below it is due any more.
+    pub fn base(&mut self, view: View)
+        ensures { AtEach S.Scheme L.Elector self.old (λ s h. Keeps S.Scheme L.Elector s self.new (based view ∷ h)) }
+    {
+        self.views.base(view)
     }
 
     /// Takes a notarization that certifies: whether it is the first of its view, and the known leader's key where it took

@@ -5,7 +5,7 @@ ghost use Rattle.types_core.specs.Positions.{HasRoom};
 ghost use Rattle.voter_history.specs.Held.{held, Agrees, Differs};
 ghost use Rattle.voter_history.specs.Past.{offers, has_nullified};
 ghost use Rattle.voter_history.specs.Past as past;
-ghost use Rattle.voter_history.specs.History.{started, notarized, nullified, finalized, judged, forwarded, nullification, seen};
+ghost use Rattle.voter_history.specs.History.{started, based, notarized, nullified, finalized, judged, forwarded, nullification, seen};
 ghost use Rattle.voter_history.specs.Leaders.{leader};
 ghost use Rattle.voter_views.specs.Views.{Keeps, AtEach};
 
@@ -18,12 +18,12 @@ use voter_history::TimeoutReason;
 use voter_rounds::later;
 
 impl<S: Scheme<D> + Drop, L: Elector<S, D>, D: Digest> Views<S, L, D> {
-    /// Starts on this payload, and enters view 1.
+    /// Starts on the payload of view 0, where it is known, and enters view 1.
     ///
     /// # Errors
     ///
     /// `AllocError` where memory ran out.
-    pub fn set_genesis(&mut self, now: u64, payload: D) -> Result<(), AllocError>
+    pub fn start(&mut self, now: u64, payload: Option<D>) -> Result<(), AllocError>
         ensures { OnOk result (AtEach S.Scheme L.Elector self.old (λ s h. Keeps S.Scheme L.Elector s self.new (started now payload ∷ h))) }
     {
         let first = View::zero().next();
@@ -33,8 +33,16 @@ impl<S: Scheme<D> + Drop, L: Elector<S, D>, D: Digest> Views<S, L, D> {
             .elect(Round::new(self.epoch, first), absent.as_ref());
         self.progress.enter(now, first)?;
         self.progress.tracked.lead(first, leader, first)?;
-        self.genesis = Some(payload);
+        self.genesis = payload;
         Ok(())
+    }
+
+    /// Takes it that the member's record begins behind this view, since it was rewritten; where one above was named before, or is
+    /// that of its first entry, behind that.
+    pub fn base(&mut self, view: View)
+        ensures { AtEach S.Scheme L.Elector self.old (λ s h. Keeps S.Scheme L.Elector s self.new (based view ∷ h)) }
+    {
+        self.beginning.base(view);
     }
 
     /// Takes a notarization that certifies: whether it is the first of its view, and the known leader's key where it took
@@ -77,6 +85,7 @@ impl<S: Scheme<D> + Drop, L: Elector<S, D>, D: Digest> Views<S, L, D> {
         let key = self.progress.tracked.add_notarization(certificate)?;
         let end = self.progress.tracked.first_unreached(view);
         self.progress.tracked.lead(next, leader, end)?;
+        self.beginning.tell();
         Ok((true, key))
     }
 
@@ -114,6 +123,7 @@ impl<S: Scheme<D> + Drop, L: Elector<S, D>, D: Digest> Views<S, L, D> {
         self.coverage
             .cover(view, view.term_end(self.lookahead.length))?;
         self.nullified.mark(view)?;
+        self.beginning.tell();
         Ok(true)
     }
 
@@ -162,6 +172,7 @@ impl<S: Scheme<D> + Drop, L: Elector<S, D>, D: Digest> Views<S, L, D> {
         let end = self.progress.tracked.first_unreached(view);
         self.progress.tracked.lead(next, leader, end)?;
         self.last_finalized = later(self.last_finalized, view);
+        self.beginning.finalize(view);
         Ok((true, key))
     }
 
@@ -204,6 +215,7 @@ impl<S: Scheme<D> + Drop, L: Elector<S, D>, D: Digest> Views<S, L, D> {
         requires { view + 1 < 2 ^ 64 }
         ensures { OnOk result (AtEach S.Scheme L.Elector self.old (λ s h. Keeps S.Scheme L.Elector s self.new (judged now view is_success ∷ h))) }
     {
+        self.beginning.tell();
         self.progress.tracked.judge(view, is_success)?;
         if is_success {
             return self.progress.enter(now, view.next());

@@ -32,6 +32,7 @@ impl<S: Scheme<D> + Drop, L: Elector<S, D>, D: Digest> Views<S, L, D> {
         };
         self.progress.tracked.follow_vote(view, next_leader)?;
         self.backed.mark(view)?;
+        self.beginning.tell();
         Ok(Some(proposal))
     }
 
@@ -49,7 +50,9 @@ impl<S: Scheme<D> + Drop, L: Elector<S, D>, D: Digest> Views<S, L, D> {
             AtEach S.Scheme L.Elector self.old
             (λ s h. voted ≡ (if has_finalized (seen s h view) then None else Some (has_nullified (seen s h view))))) }
     {
-        self.progress.tracked.construct_nullify(view)
+        let voted = self.progress.tracked.construct_nullify(view)?;
+        self.beginning.nullify(voted);
+        Ok(voted)
     }
 
     /// Votes to finalize the view, where the view itself allows it: the held proposal. Else nothing changes.
@@ -59,6 +62,8 @@ impl<S: Scheme<D> + Drop, L: Elector<S, D>, D: Digest> Views<S, L, D> {
         ensures answer { AtEach S.Scheme L.Elector self.old (λ s h.
             MatchOption result (¬ MayFinalize (seen s h view)) (λ p. MayFinalize (seen s h view) × (held (offers (seen s h view)) ≡ Some p))) }
     {
-        self.progress.tracked.construct_finalize(view)
+        let voted = self.progress.tracked.construct_finalize(view);
+        self.beginning.tell_if(voted.is_some());
+        voted
     }
 }

@@ -7,6 +7,7 @@ ghost use Rattle.voter_history.specs.History.{seen, undecided_payload};
 ghost use Rattle.voter_rounds.specs.Rounds.{Takes};
 ghost use Rattle.voter_views.specs.Views.{Keeps, AtEach, recalls};
 
+use crate::beginning::is_vote;
 use crate::views::Views;
 use messages_certificates::Artifact;
 use std::alloc::AllocError;
@@ -27,6 +28,7 @@ impl<S: Scheme<D> + Drop, L: Elector<S, D>, D: Digest> Views<S, L, D> {
             (λ s h. (taken : Bool) × Takes (seen s h) artifact.now taken × Keeps S.Scheme L.Elector s self.new (recalls taken artifact.now ∷ h))) }
     {
         let Artifact::Notarize(vote) = artifact else {
+            self.beginning.tell_if(is_vote(artifact));
             return self.progress.tracked.replay(artifact);
         };
         let proposal = vote.proposal;
@@ -34,6 +36,7 @@ impl<S: Scheme<D> + Drop, L: Elector<S, D>, D: Digest> Views<S, L, D> {
         let is_taken = self.takes(&proposal);
         let payload = self.undecided_payload(proposal.parent);
         let next_leader = self.handoff_leader(view);
+        self.beginning.tell();
         self.progress.tracked.replay(artifact)?;
         self.progress.tracked.bind(proposal, payload)?;
         self.progress.tracked.follow_vote(view, next_leader)?;

@@ -25,7 +25,7 @@ returns-clause-keeps g c = λ s h k.
     let then = grown-tables s h (inside s h c.args.now behind) in
     let added = c.in_ok-key.ensures.keeps (frame_of s) then entered.tracked (inside-finalization s h c.args.now behind at ∙ fresh) in
     let table = grown-tables s h (put at (past.finalized cert) (inside s h c.args.now behind)) in
-    finalized-kept k c.args.now cert c.enter.new.self c.lead.new.self behind c.elect-leader.result view c.later-self.result then next led entered
+    finalized-kept k c.args.now cert c.enter.new.self c.lead.new.self c.finalize.new.self behind c.elect-leader.result view c.later-self.result then c.finalize.ensures.floor c.finalize.ensures.blank next led entered
     (c.in_ok-lead.ensures (frame_of s) table added (behind-one behind at next) (elected-member k behind (Some cert.certificate) c.elect-leader.result led)
     (λ u far fits. finalized-closed s h c.args.now cert behind view c.first_unreached-end.result u next c.view-view.ensures far
     (λ le. c.first_unreached-end.ensures.behind (frame_of s) table added u le fits)))

@@ -21,7 +21,7 @@ returns-clause-keeps g c = λ s h k.
     let fresh : past.notarization (seen s h at) ≡ None = fresh_at c.notarization.result (λ u. past.notarization (seen s h u)) view at c.view-view.ensures (c.notarization.ensures s h k) c.if-is_some.ensures in
     let added = c.in_ok-key.ensures.keeps (frame_of s) (tables s h) k.progress.tracked fresh in
     let table = grown-tables s h (put at (past.notarized cert) (seen s h)) in
-    notarized-kept k cert c.lead.new.self c.next-next.result c.elect-leader.result next led
+    notarized-kept k cert c.lead.new.self c.tell.new.self c.next-next.result c.elect-leader.result c.tell.ensures.floor c.tell.ensures.blank next led
     (c.in_ok-lead.ensures (frame_of s) table added (behind-one c.next-next.result at next) (elected-member k c.next-next.result (Some cert.certificate) c.elect-leader.result led)
     (λ u far fits. notarized-closed s h cert c.next-next.result view c.first_unreached-end.result u next c.view-view.ensures far
     (λ le. c.first_unreached-end.ensures.behind (frame_of s) table added u le fits)))

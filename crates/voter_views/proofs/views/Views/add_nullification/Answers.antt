@@ -33,7 +33,7 @@ returns-clause-keeps g c = λ s h k.
     let then = grown-tables s h (inside s h c.args.now start) in
     let added = c.in_ok-add_nullification.ensures (frame_of s) then entered.tracked (inside-nullification s h c.args.now start at ∙ fresh) in
     let table = grown-tables s h (put at (past.nullified cert) (inside s h c.args.now start)) in
-    nullified-kept k c.args.now cert c.enter.new.self c.lead.new.self c.cover.new.self c.mark.new.self start c.elect-leader.result view c.term_end.result then next led entered
+    nullified-kept k c.args.now cert c.enter.new.self c.lead.new.self c.cover.new.self c.mark.new.self c.tell.new.self start c.elect-leader.result view c.term_end.result then c.tell.ensures.floor c.tell.ensures.blank next led entered
     (c.in_ok-lead.ensures (frame_of s) table added (next_term-some s.length at start next) (elected-member k start (Some cert.certificate) c.elect-leader.result led)
     (λ u _ _. nullified-closed s h c.args.now cert start u))
     (subst (λ n. 0 < n) k.length c.get-views.ensures.at_least_one) c.view-view.ensures ends c.in_ok-cover.ensures.ok

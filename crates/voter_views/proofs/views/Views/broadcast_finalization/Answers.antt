@@ -12,7 +12,7 @@ pub returns-clause-keeps : goal.returns-clause-keeps
 unfolding Keeps
 returns-clause-keeps g c = MatchResult-weaker c.broadcast_finalization.result c.broadcast_finalization.ensures.keeps
     (λ copy told s h k. quiet-if (is_some copy) (History.sent kind.Finalization c.args.view) c.broadcast_finalization.new.self k (sent-quiet s h kind.Finalization c.args.view) refl
-    (told (frame_of s) (tables s h) k.progress.tracked))
+    (told (frame_of s) (tables s h) k.progress.tracked) k.begun)
     (λ e _. tt)
 
 pub returns-clause-answer : goal.returns-clause-answer

@@ -12,7 +12,7 @@ pub returns-clause-keeps : goal.returns-clause-keeps
 unfolding Keeps
 returns-clause-keeps g c = MatchResult-weaker c.broadcast_notarization.result c.broadcast_notarization.ensures.keeps
     (λ copy told s h k. quiet-if (is_some copy) (History.sent kind.Notarization c.args.view) c.broadcast_notarization.new.self k (sent-quiet s h kind.Notarization c.args.view) refl
-    (told (frame_of s) (tables s h) k.progress.tracked))
+    (told (frame_of s) (tables s h) k.progress.tracked) k.begun)
     (λ e _. tt)
 
 pub returns-clause-answer : goal.returns-clause-answer

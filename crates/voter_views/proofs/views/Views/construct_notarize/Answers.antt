@@ -1,4 +1,4 @@
-use Rattle.std.proofs.Common.{◌≡◌, ◌==◌, true, refl, ◌∷◌}
+use Rattle.std.proofs.Common.{◌≡◌, ◌==◌, ◌∙◌, true, refl, ◌∷◌}
 use Rattle.std.proofs.lemmas.Bool.{eq-eqb}
 use Rattle.voter_history.specs.Past as past
 use Rattle.voter_history.specs.History as History
@@ -33,9 +33,9 @@ returns-clause-keeps g c = λ s h k.
     (spoken-closed s h grown view certificates (λ w apart. rw apart refl)) in
     let led = voted-at g.S.Scheme c.follow_vote.new.self s h (History.voted_notarize view c.in-Some.proposal) view c.handoff_leader-next_leader.result refl (λ u. refl) (rw here refl)
     (λ w apart. rw apart refl) (c.handoff_leader-next_leader.ensures.value s h k) followed in
-    still-kept (History.voted_notarize view c.in-Some.proposal) (record c.args.self.now.progress { tracked = c.follow_vote.new.self }) c.mark.new.self c.args.self.now.waiting k (notarize-still s h view c.in-Some.proposal)
+    still-kept (History.voted_notarize view c.in-Some.proposal) (record c.args.self.now.progress { tracked = c.follow_vote.new.self }) c.mark.new.self c.args.self.now.waiting c.tell.new.self k (notarize-still s h view c.in-Some.proposal)
     (IsAt-tracked {t' = tables s (History.voted_notarize view c.in-Some.proposal ∷ h)} k.progress led)
-    (c.in_ok-mark.ensures (is_marked s backs h) k.backed) k.waiting
+    (c.in_ok-mark.ensures (is_marked s backs h) k.backed) k.waiting (c.tell.ensures.floor ∙ k.begun.0, c.tell.ensures.blank)
 
 pub returns-in_default-clause-answer : goal.returns-in_default-clause-answer
 unfolding Keeps

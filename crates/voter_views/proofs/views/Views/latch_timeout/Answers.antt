@@ -9,7 +9,7 @@ use Rattle.voter_views.proofs.views.Views.latch_timeout.Goals as goal
 pub returns-clause-keeps : goal.returns-clause-keeps
 unfolding Keeps
 returns-clause-keeps g c = MatchResult-weaker c.latch_timeout.result c.latch_timeout.ensures.keeps
-    (λ _ told s h k. quiet (History.latched c.args.now c.args.view c.args.reason) c.latch_timeout.new.self k (latched-quiet s h c.args.now c.args.view c.args.reason) refl (told (frame_of s) (tables s h) k.progress.tracked))
+    (λ _ told s h k. quiet (History.latched c.args.now c.args.view c.args.reason) c.latch_timeout.new.self c.args.self.now.beginning k (latched-quiet s h c.args.now c.args.view c.args.reason) refl (told (frame_of s) (tables s h) k.progress.tracked) k.begun)
     (λ e _. tt)
 
 pub returns-clause-unchanged : goal.returns-clause-unchanged

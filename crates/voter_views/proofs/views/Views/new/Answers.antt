@@ -28,10 +28,11 @@ returns g c =
       };
       last_finalized = c.zero-2.ensures;
       behind = omega arith;
+      begun = (c.new-3.ensures.floor, c.new-3.ensures.blank);
       genesis = refl;
-      coverage = λ view. (λ is. absurd (c.new-3.ensures view is), λ there. absurd (cc there.2));
-      backed = Shows-same _ _ _ c.new-4.ensures (λ u. refl);
-      waiting = Shows-same _ _ _ c.new-5.ensures (λ u. refl);
-      nullified = Shows-same _ _ _ c.new-6.ensures (λ u. refl);
-      nullifications = λ view. rw c.new-7.ensures.empty refl;
+      coverage = λ view. (λ is. absurd (c.new-4.ensures view is), λ there. absurd (cc there.2));
+      backed = Shows-same _ _ _ c.new-5.ensures (λ u. refl);
+      waiting = Shows-same _ _ _ c.new-6.ensures (λ u. refl);
+      nullified = Shows-same _ _ _ c.new-7.ensures (λ u. refl);
+      nullifications = λ view. rw c.new-8.ensures.empty refl;
     }

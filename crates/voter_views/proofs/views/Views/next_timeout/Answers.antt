@@ -16,17 +16,19 @@ pub returns-then-is_zero-clause-keeps : goal.returns-then-is_zero-clause-keeps
 unfolding Keeps
 returns-then-is_zero-clause-keeps g c = λ s h k same.
     let zero : c.args.self.now.progress.view ≡ 0 = c.is_zero.ensures.0 c.if-is_zero.true in
-    quiet (History.polled c.args.now) c.args.self.now.progress.tracked k (polled-quiet s h c.args.now) refl
+    quiet (History.polled c.args.now) c.args.self.now.progress.tracked c.args.self.now.beginning k (polled-quiet s h c.args.now) refl
     (subst (λ t. Holds g.S.Scheme (frame_of s) c.args.self.now.progress.tracked (grown-tables s h t)) (polled-none s h c.args.now (rw zero at (sym k.progress.view))) k.progress.tracked)
+    k.begun
 
 pub returns-clause-keeps : goal.returns-clause-keeps
 unfolding Keeps
 returns-clause-keeps g c = MatchResult-weaker c.next_timeout.result c.next_timeout.ensures.keeps
     (λ _ told s h k same.
     let some : c.args.self.now.progress.view ≡ 0 → ⊥ = λ zero. is-not c.if-is_zero.false (c.is_zero.ensures.1 zero) in
-    quiet (History.polled c.args.now) c.next_timeout.new.self k (polled-quiet s h c.args.now) refl
+    quiet (History.polled c.args.now) c.next_timeout.new.self c.args.self.now.beginning k (polled-quiet s h c.args.now) refl
     (subst (λ t. Holds g.S.Scheme (frame_of s) c.next_timeout.new.self (grown-tables s h t)) (polled-some s h c.args.now c.args.self.now.progress.view c.args.retry_interval same k.progress.view some)
-    (told (frame_of s) (tables s h) k.progress.tracked)))
+    (told (frame_of s) (tables s h) k.progress.tracked))
+    k.begun)
     (λ e _. tt)
 
 pub returns-clause-unchanged : goal.returns-clause-unchanged

@@ -10,7 +10,7 @@ pub returns-clause-keeps : goal.returns-clause-keeps
 unfolding Keeps
 returns-clause-keeps g c = MatchResult-weaker c.proposed.result c.proposed.ensures.keeps
     (λ taken told s h k. quiet-if taken (History.built c.args.now c.args.proposal c.args.parent_payload) c.proposed.new.self k
-    (built-quiet s h c.args.now c.args.proposal c.args.parent_payload) refl (told (frame_of s) (tables s h) k.progress.tracked))
+    (built-quiet s h c.args.now c.args.proposal c.args.parent_payload) refl (told (frame_of s) (tables s h) k.progress.tracked) k.begun)
     (λ e _. tt)
 
 pub returns-clause-answer : goal.returns-clause-answer

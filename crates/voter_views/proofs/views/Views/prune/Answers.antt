@@ -40,6 +40,7 @@ returns-clause-keeps g c = if_ok_both c.clear_below.result c.clear_below.ensures
       progress = IsAt-tracked {t' = tables s (History.pruned ∷ h)} k.progress (rw floor at dropped);
       last_finalized = k.last_finalized;
       behind = k.behind;
+      begun = k.begun;
       genesis = k.genesis;
       coverage = k.coverage;
       backed = rw floor at (c.forget_below.ensures (is_marked s backs h) k.backed);

@@ -10,7 +10,7 @@ pub returns : goal.returns
 unfolding Keeps
 returns g c = MatchResult-weaker c.mark.result c.mark.ensures
     (λ _ marked s h k.
-    still-kept (History.certify_waited c.args.view) c.args.self.now.progress c.args.self.now.backed c.mark.new.self k (waited-still s h c.args.view)
+    still-kept (History.certify_waited c.args.view) c.args.self.now.progress c.args.self.now.backed c.mark.new.self c.args.self.now.beginning k (waited-still s h c.args.view)
     (unled-progress (History.certify_waited c.args.view) c.args.self.now.progress (current s h) (waited-unled s h c.args.view) k.progress)
-    k.backed (marked (is_marked s waits h) k.waiting))
+    k.backed (marked (is_marked s waits h) k.waiting) k.begun)
     (λ e _. tt)

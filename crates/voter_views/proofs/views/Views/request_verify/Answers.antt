@@ -10,7 +10,7 @@ unfolding Keeps
 returns-clause-keeps g c = λ s h k.
     quiet-if c.request_verify.result (History.verify_asked c.args.view c.args.proposal c.args.parent_payload) c.request_verify.new.self k
     (verify_asked-quiet s h c.args.view c.args.proposal c.args.parent_payload) refl
-    (c.request_verify.ensures.keeps (frame_of s) (tables s h) k.progress.tracked)
+    (c.request_verify.ensures.keeps (frame_of s) (tables s h) k.progress.tracked) k.begun
 
 pub returns-clause-answer : goal.returns-clause-answer
 unfolding Keeps

@@ -20,7 +20,7 @@ returns-clause-keeps g c = MatchResult-weaker c.forward.result c.forward.ensures
     let like = like-unless s h (has_nullified (seen s h c.args.view)) (put c.args.view (past.offered (offer.forwarded c.args.proposal.now)) (seen s h))
     (like-put s h c.args.view (past.offered (offer.forwarded c.args.proposal.now)) (seen s h) (λ l. refl, λ l. refl, λ l. refl) (like-seen s h)) in
     let known = named-at g.S.Scheme c.forward.new.self s h (History.forwarded c.args.view c.args.proposal.now) refl like.2 (told (frame_of s) (tables s h) k.progress.tracked (leader-closed s h)) in
-    still-kept (History.forwarded c.args.view c.args.proposal.now) (record c.args.self.now.progress { tracked = c.forward.new.self }) c.args.self.now.backed c.args.self.now.waiting k
+    still-kept (History.forwarded c.args.view c.args.proposal.now) (record c.args.self.now.progress { tracked = c.forward.new.self }) c.args.self.now.backed c.args.self.now.waiting c.args.self.now.beginning k
     (record {
       finalizes = refl;
       begins = refl;
@@ -29,7 +29,7 @@ returns-clause-keeps g c = MatchResult-weaker c.forward.result c.forward.ensures
       kept_nullification = like.0;
     })
     (IsAt-tracked {t' = tables s (History.forwarded c.args.view c.args.proposal.now ∷ h)} k.progress known)
-    k.backed k.waiting)
+    k.backed k.waiting k.begun)
     (λ e _. tt)
 
 pub returns-clause-answer : goal.returns-clause-answer

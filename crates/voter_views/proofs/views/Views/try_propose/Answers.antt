@@ -10,7 +10,7 @@ pub returns-clause-keeps : goal.returns-clause-keeps
 unfolding Keeps
 returns-clause-keeps g c = λ s h k.
     quiet-if (is_some c.try_propose.result) (History.build_asked c.args.view) c.try_propose.new.self k (build_asked-quiet s h c.args.view) refl
-    (c.try_propose.ensures.keeps (frame_of s) (tables s h) k.progress.tracked)
+    (c.try_propose.ensures.keeps (frame_of s) (tables s h) k.progress.tracked) k.begun
 
 pub returns-clause-answer : goal.returns-clause-answer
 unfolding Keeps

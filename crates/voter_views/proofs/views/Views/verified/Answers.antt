@@ -9,7 +9,7 @@ use Rattle.voter_views.proofs.views.Views.verified.Goals as goal
 pub returns-clause-keeps : goal.returns-clause-keeps
 unfolding Keeps
 returns-clause-keeps g c = MatchResult-weaker c.verified.result c.verified.ensures.keeps
-    (λ became told s h k. quiet (History.confirmed c.args.view) c.verified.new.self k (confirmed-quiet s h c.args.view) refl (told (frame_of s) (tables s h) k.progress.tracked))
+    (λ became told s h k. quiet (History.confirmed c.args.view) c.verified.new.self c.args.self.now.beginning k (confirmed-quiet s h c.args.view) refl (told (frame_of s) (tables s h) k.progress.tracked) k.begun)
     (λ e _. tt)
 
 pub returns-clause-answer : goal.returns-clause-answer

@@ -5,7 +5,7 @@ use Rattle.voter_views.proofs.Learning.{behind-one, elected, elected-member, ins
 use Rattle.voter_history.specs.History.{current}
 use Rattle.voter_views.specs.Progress.{frame_of, tables}
 use Rattle.voter_views.specs.Views.{Keeps}
-use Rattle.voter_views.proofs.views.Views.set_genesis.Goals as goal
+use Rattle.voter_views.proofs.views.Views.start.Goals as goal
 
 pub returns : goal.returns
 unfolding Keeps
