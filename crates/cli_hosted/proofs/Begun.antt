@@ -31,6 +31,12 @@ pub done_by : {B : Type 0} (opening : Result B OpenFault) (value : B → Session
 done_by (Ok b) value held answer Q holds never q is = (value b, holds, q)
 done_by (Err why) value held answer Q holds never q is = absurd (never is)
 
+-- a state is its node and its replies
+pub same_state : (a b : SessionState) → a.node ≡ b.node → a.replies ≡ b.replies → a ≡ b
+same_state a b node replies =
+    subst (λ (n : Hosted). a ≡ record { node = n; replies = b.replies }) node
+    (subst (λ (r : List ℕ). a ≡ record { node = a.node; replies = r }) replies refl)
+
 module _ (g : Ghosts plain.Committee (List ℕ) ℕ (List ℕ) Listed) (e : elector.Ghosts Rotation plain.Committee (List ℕ) ℕ (List ℕ) Listed) (k : disk.Ghosts HostedState)
     (formats : ℕ → Formats plain.Committee (List ℕ) ℕ (List ℕ) Listed) (w : PlainReply → List ℕ)
     (Readable : Artifact plain.Committee (List ℕ) ℕ (List ℕ) Listed → Type 0) (stored : List ℕ) (on : HostedState) (fresh : on ≡ over stored) where
