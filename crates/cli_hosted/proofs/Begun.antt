@@ -1,6 +1,6 @@
 -- What is held behind an opening is what was opened.
-use Rattle.std.proofs.Common.{◌≡◌, ◌≢◌, ◌++◌, ◌∙◌, ap, subst, refl, ℕ, List, [], Option, None, Some}
-use Rattle.std.specs.Prelude.{Result, Ok, Err, IfOk, IfErr}
+use Rattle.std.proofs.Common.{◌≡◌, ◌++◌, ◌∙◌, ap, subst, refl, ℕ, List, [], None}
+use Rattle.std.specs.Prelude.{Result, Ok, Err, IfOk}
 use Rattle.types_core.specs.declared.scheme.Scheme.{Ghosts}
 use Rattle.messages_certificates.specs.declared.artifact.Artifact.{Artifact}
 use Rattle.types_terms.specs.Rotation.{Rotation}
@@ -15,21 +15,12 @@ use Rattle.node_steps.specs.declared.node.Node.{Node}
 use Rattle.node_steps.specs.Opening.{IsOpenAndSettled}
 use Rattle.cli_settings.specs.declared.setting.Committee.{Committee}
 use Rattle.cli_settings.specs.Building.{AreLeaders}
-use Rattle.cli_hosted.specs.declared.status.Status.{Status}
-use Rattle.cli_hosted.specs.declared.status.Status.TheVariants.{Done}
 use Rattle.cli_hosted.specs.HostedDisk.{HostedState}
 use Rattle.cli_hosted.specs.Hosting.{IsBegun, over}
 use Rattle.cli_hosted.specs.Sessions.{Listed, PlainReply, SessionState}
 
 abbrev Hosted : Type 0
 Hosted = Node plain.Committee Rotation (List ℕ) HostedState ℕ (List ℕ) Listed
-
--- what holds of a session that was opened holds of the node that is held behind an answer that tells so
-pub done_by : {B : Type 0} (opening : Result B OpenFault) (value : B → SessionState) (held : Option SessionState) (answer : Status) (Q : SessionState → Type 0)
-    → IfOk opening (λ b. held ≡ Some (value b)) → IfErr opening (λ why. answer ≢ Done) → IfOk opening (λ b. Q (value b)) → answer ≡ Done
-    → (state : SessionState) × (held ≡ Some state) × Q state
-done_by (Ok b) value held answer Q holds never q is = (value b, holds, q)
-done_by (Err why) value held answer Q holds never q is = absurd (never is)
 
 -- a state is its node and its replies
 pub same_state : (a b : SessionState) → a.node ≡ b.node → a.replies ≡ b.replies → a ≡ b

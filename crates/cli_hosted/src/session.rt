@@ -105,6 +105,7 @@ impl Session {
     }
 
     /// Answers events, one behind another; the replies are put behind those that were not taken yet.
+    #[tactic(auto, using(crate::proofs::Begun::same_state))]
     pub(crate) fn step(&mut self, alloc: Global, events: &[u8]) -> Result<(), IoFault>
         ensures { ⟦<Promised as Promises>⟧.answered self.old events.now result self.new }
     {

@@ -1,5 +1,5 @@
 -- A status by its number.
-use Rattle.std.proofs.Common.{◌≡◌, ◌≢◌, ◌∙◌, ℕ, Option, Some, Bool, false, ap, refl, rules, sym}
+use Rattle.std.proofs.Common.{◌≡◌, ℕ, Option, Some, false, refl, rules}
 use Rattle.std.specs.Prelude.{if◌then◌else◌, nat_eq}
 use Rattle.cli_calls.proofs.Numbers.{by_number}
 use Rattle.cli_hosted.specs.Serving.{asks}
@@ -31,12 +31,6 @@ leads status.NotCertifying = refl
 leads status.NotFinal = refl
 
 -- what the number tells of the status
-pub told_by : (number : ℕ) (told is : Status) → number ≡ status_number told → number ≡ status_number is → told ≡ is
-told_by number told is of same = by_number status_number status_at leads told is (sym of ∙ same)
-
-pub not_told_by : (number : ℕ) (told is : Status) → number ≡ status_number told → number ≢ status_number is → told ≢ is
-not_told_by number told is of other same = other (of ∙ ap status_number same)
-
 pub done_by : (told : Status) → status_number told ≡ 0 → told ≡ status.Done
 done_by told is = by_number status_number status_at leads told status.Done is
 

@@ -1,5 +1,0 @@
-use Rattle.cli_hosted.proofs.Begun.{done_by}
-use Rattle.cli_hosted.proofs.serving.opened_by.Goals as goal
-
-pub returns-in-Ok-clause-begun : goal.returns-in-Ok-clause-begun
-returns-in-Ok-clause-begun c = done_by c.open_by.result (λ b. b.value) _ _ _ c.begun.ensures.held c.begun.ensures.not_held c.open_by.ensures
