@@ -14,7 +14,7 @@ use Rattle.simplex_member.specs.Setup.{Setup}
 use Rattle.node_steps.specs.declared.node.Node.{Node}
 use Rattle.node_steps.specs.Opening.{IsOpenAndSettled}
 use Rattle.cli_settings.specs.declared.setting.Committee.{Committee}
-use Rattle.cli_settings.specs.Building.{AreLeaders}
+use Rattle.cli_opening.specs.Members.{AreLeaders}
 use Rattle.cli_hosted.specs.HostedDisk.{HostedState}
 use Rattle.cli_hosted.specs.Hosting.{IsBegun, over}
 use Rattle.cli_hosted.specs.Sessions.{Listed, PlainReply, SessionState}

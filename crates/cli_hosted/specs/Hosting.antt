@@ -18,7 +18,8 @@ use Rattle.node_wire.specs.Streaming.{EndsIn}
 use Rattle.simplex_node.specs.Running.{RunFails, RunsTo}
 use Rattle.simplex_cli.specs.Settings.{program_committee, program_config, program_rotation}
 use Rattle.cli_settings.specs.declared.setting.Settings.{Settings}
-use Rattle.cli_settings.specs.Building.{AreLeaders, committee_of, config_of}
+use Rattle.cli_settings.specs.Building.{config_of}
+use Rattle.cli_opening.specs.Members.{AreLeaders, committee_of}
 use Rattle.cli_hosted.specs.HostedDisk.{HostedState}
 use Rattle.cli_hosted.specs.Sessions.{Listed, PlainReply, SessionState}
 

@@ -1,7 +1,8 @@
 //! A member's node between two calls.
 
 ghost use Rattle.std.specs.Prelude.{◌≡◌, ◌<◌, ◌++◌, ℕ, [], IfOk, None, Ok, Some, false, length, true};
-ghost use Rattle.cli_settings.specs.Building.{AreLeaders, committee_of, config_of};
+ghost use Rattle.cli_settings.specs.Building.{config_of};
+ghost use Rattle.cli_opening.specs.Members.{AreLeaders, committee_of};
 ghost use Rattle.cli_settings.specs.Checking.{IsGood};
 ghost use Rattle.cli_calls.specs.Told.{IsPut};
 ghost use Rattle.cli_hosted.specs.Hosting.{over};

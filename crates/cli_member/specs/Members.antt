@@ -14,11 +14,10 @@ use Rattle.simplex_member.specs.Setup.{Setup}
 use Rattle.types_codec.specs.Front.{AppendsFront}
 use Rattle.cli_settings.specs.declared.setting.Committee.{Committee}
 use Rattle.cli_settings.specs.declared.setting.Settings.{Settings}
-use Rattle.cli_settings.specs.Building.{AreLeaders}
 use Rattle.cli_opening.specs.declared.looking.Barred.{Barred}
 use Rattle.cli_opening.specs.declared.looking.Found.{Found}
 use Rattle.cli_opening.specs.Looking.{IsBeyondCut}
-use Rattle.cli_opening.specs.Members.{IsBarredFor, IsFoundFor}
+use Rattle.cli_opening.specs.Members.{AreLeaders, IsBarredFor, IsFoundFor}
 use Rattle.cli_opening.specs.Saying.{found_words}
 use Rattle.cli_record.specs.Telling.{TellsLeft}
 use Rattle.simplex_cli.specs.declared.ending.Ending.{Ending}

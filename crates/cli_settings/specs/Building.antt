@@ -1,9 +1,6 @@
 -- What a node is made of by its settings.
-use Rattle.std.specs.Prelude.{◌≡◌, ℕ, zero, suc, List, Option, Some, option_map}
-use Rattle.types_terms.specs.Rotation.{Rotation}
-use Rattle.types_terms.specs.Shuffle.{IsOrderOf}
+use Rattle.std.specs.Prelude.{ℕ, zero, suc, List, Option, option_map}
 use Rattle.types_terms.specs.Terms.{Timing, rotating, stable}
-use Rattle.simplex_types.specs.Plain as plain
 use Rattle.voter_rules.specs.declared.config.Config.{Config}
 use Rattle.cli_settings.specs.declared.setting.Committee.{Committee}
 use Rattle.cli_settings.specs.declared.setting.Settings.{Settings}
@@ -35,12 +32,3 @@ timing_of t = timing_by t.stall_timeout t
 -- what the order of leaders is shuffled by, if it is
 abbrev pub seed_of : Committee → Option (List ℕ)
 seed_of c = option_map (λ seed. seed.items) c.seed
-
--- the committee as this member has it: all sign under one base
-abbrev pub committee_of : Settings → plain.Committee
-committee_of s = record { base = s.committee.base.items; participants = s.committee.members; me = Some s.member }
-
--- the members of a committee lead so: in ascending order or in that of the seed, by its terms
-pub record AreLeaders (c : Committee) (leaders : Rotation) : Type 0 where
-  pub order : IsOrderOf (seed_of c) c.members leaders.order
-  pub terms : leaders.terms ≡ timing_of c.turns
