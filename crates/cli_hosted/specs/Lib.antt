@@ -1,6 +1,7 @@
+pub mod Held
 pub mod HostedDisk
-pub mod Members
-pub mod Place
+pub mod Hosting
 pub mod Requests
 pub mod Serving
+pub mod Sessions
 pub mod Statuses

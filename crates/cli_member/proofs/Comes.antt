@@ -9,7 +9,7 @@ use Rattle.cli_settings.specs.declared.setting.Committee.{Committee}
 use Rattle.simplex_cli.specs.declared.ending.Ending.{Ending}
 use Rattle.simplex_cli.specs.declared.ending.Ending.TheVariants as ending
 use Rattle.simplex_cli.specs.Serving.{ended_of}
-use Rattle.cli_member.specs.Members.{AreLeaders}
+use Rattle.cli_opening.specs.Members.{AreLeaders}
 
 some-is : {X : Type 0} (x y : X) → Some x ≡ Some y → x ≡ y
 some-is x y e = ap (λ o. unwrap_or o x) e

@@ -1,14 +1,11 @@
--- A member by its settings: whose record it has, in which committee it is and who leads there, and what its program comes to.
-use Rattle.std.specs.Prelude.{◌≡◌, ◌⊎◌, ℕ, List, Bool, Option, Some, Result, Err, IfErr, OnOk, codes, true, ⊤}
+-- What the program of a member comes to.
+use Rattle.std.specs.Prelude.{◌≡◌, ◌⊎◌, ℕ, List, Bool, Option, Result, Err, IfErr, OnOk, codes, true, ⊤}
 use Rattle.types_codec.specs.declared.codec.CodecError.{CodecError}
 use Rattle.types_core.specs.declared.scheme.Scheme.{Ghosts}
 use Rattle.types_terms.specs.Rotation.{Rotation}
-use Rattle.types_terms.specs.Shuffle.{IsOrderOf}
-use Rattle.simplex_types.specs.Plain as plain
 use Rattle.messages_certificates.specs.declared.artifact.Artifact.{Artifact}
 use Rattle.journal_single.specs.declared.disk.Disk as disk
 use Rattle.journal_books.specs.declared.disks.Disks.{Disks}
-use Rattle.simplex_record.specs.declared.owner.Owner.{Owner}
 use Rattle.simplex_member.specs.declared.action.Reply.{Reply}
 use Rattle.simplex_member.specs.declared.fault.IoFault.{IoFault}
 use Rattle.simplex_member.specs.declared.fault.OpenFault.{OpenFault}
@@ -17,37 +14,16 @@ use Rattle.simplex_member.specs.Setup.{Setup}
 use Rattle.types_codec.specs.Front.{AppendsFront}
 use Rattle.cli_settings.specs.declared.setting.Committee.{Committee}
 use Rattle.cli_settings.specs.declared.setting.Settings.{Settings}
-use Rattle.cli_settings.specs.Building.{seed_of, timing_of}
 use Rattle.cli_opening.specs.declared.looking.Barred.{Barred}
 use Rattle.cli_opening.specs.declared.looking.Found.{Found}
-use Rattle.cli_opening.specs.Looking.{IsBarredBy, IsBeyondCut, IsFoundBy}
+use Rattle.cli_opening.specs.Looking.{IsBeyondCut}
+use Rattle.cli_opening.specs.Members.{AreLeaders, IsBarredFor, IsFoundFor}
 use Rattle.cli_opening.specs.Saying.{found_words}
 use Rattle.cli_record.specs.Telling.{TellsLeft}
 use Rattle.simplex_cli.specs.declared.ending.Ending.{Ending}
 use Rattle.simplex_cli.specs.declared.ending.Ending.TheVariants as ending
 use Rattle.simplex_cli.specs.Ending.{ending_line, memory_line}
 use Rattle.simplex_cli.specs.Serving.{ServesOver, ended_of}
-
--- whose record a member's is
-abbrev pub owner_of : Settings → Owner
-owner_of s = record { epoch = s.committee.epoch; term_length = s.committee.turns.length; signer = s.member }
-
--- the bytes are a lawful record of this member, and this is said of it
-abbrev pub IsFoundFor : Settings → Bool → List ℕ → Found → Type 0
-IsFoundFor s = IsFoundBy s.committee.base.items s.committee.members (owner_of s)
-
--- why a file of these bytes is left as it is
-abbrev pub IsBarredFor : Settings → List ℕ → Barred → Type 0
-IsBarredFor s = IsBarredBy s.committee.base.items s.committee.members (owner_of s)
-
--- the committee as this member has it: all sign under one base
-abbrev pub committee_of : Settings → plain.Committee
-committee_of s = record { base = s.committee.base.items; participants = s.committee.members; me = Some s.member }
-
--- the members of a committee lead so: in ascending order or in that of the seed, by its terms
-pub record AreLeaders (c : Committee) (leaders : Rotation) : Type 0 where
-  pub order : IsOrderOf (seed_of c) c.members leaders.order
-  pub terms : leaders.terms ≡ timing_of c.turns
 
 module _ {S D P G C K : Type 0} (g : Ghosts S D P G C) (k : disk.Ghosts K) (f : Formats S D P G C) (s : Rotation → Setup S D C)
     (F : D → Type 0) (p : D → List ℕ) (w : Reply S D P G C → List ℕ) (q : List ℕ → Result (D × List ℕ) CodecError) where

@@ -5,27 +5,12 @@ ghost use Rattle.journal_single.specs.Disk.{counted};
 ghost use Rattle.cli_settings.specs.Checking.{IsGood};
 ghost use Rattle.cli_opening.specs.Looking.{IsBeyondCut};
 ghost use Rattle.cli_opening.specs.declared.looking.Barred.TheVariants as barred;
-ghost use Rattle.cli_member.specs.Members.{IsBarredFor, IsFoundFor, owner_of};
+ghost use Rattle.cli_opening.specs.Members.{IsBarredFor, IsFoundFor};
 
-use cli_opening::{Barred, Found, look_over_by};
+use cli_opening::{Barred, Found, look_over_by, owner_by};
 use cli_settings::Settings;
 use journal_single::Disk;
-use simplex_record::Owner;
 use std::alloc::Global;
-use types_core::{Participant, TermLength};
-
-/// Whose record a member's is by its settings.
-fn owner_by(settings: &Settings) -> Owner
-    requires { IsGood settings.now }
-    ensures { result ≡ owner_of settings.now }
-{
-    let committee = &settings.committee;
-    Owner {
-        epoch: committee.epoch,
-        term_length: TermLength::new(committee.turns.length),
-        signer: Participant::new(settings.member),
-    }
-}
 
 /// Looks at what a disk holds, as the member of these settings has it, and asks no more of the disk. Where `cuts`, the record's last
 /// gate and what stands behind it may be anything.

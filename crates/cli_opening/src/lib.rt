@@ -2,8 +2,10 @@
 #![tactic(auto)]
 
 mod looking;
+mod owning;
 mod reaching;
 mod saying;
 
 pub use looking::{Barred, Found, look_at, look_at_by, look_over, look_over_by};
+pub use owning::owner_by;
 pub use saying::{HELP, VERSION, say_barred, say_barred_by, say_found};

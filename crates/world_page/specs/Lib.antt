@@ -1,2 +1,3 @@
-pub mod Place
+pub mod Held
+pub mod Lines
 pub mod Statuses

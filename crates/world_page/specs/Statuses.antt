@@ -1,5 +1,5 @@
 -- What calls answer.
-use Rattle.std.specs.Prelude.{◌≡◌, ℕ, Option, None, Some}
+use Rattle.std.specs.Prelude.{ℕ}
 use Rattle.world_page.specs.declared.status.Status.{Status}
 use Rattle.world_page.specs.declared.status.Status.TheVariants as status
 
@@ -11,8 +11,3 @@ status_number status.Argument = 2
 status_number status.Room = 3
 status_number status.Device = 4
 status_number status.Setup = 5
-
--- two numbers name a third one, or none
-abbrev pub Names : ℕ → ℕ → Option ℕ → Type 0
-Names named place None = named ≡ 0
-Names named place (Some p) = (named ≡ 1) × (place ≡ p)

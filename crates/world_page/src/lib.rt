@@ -4,24 +4,24 @@
 #![tactic(auto)]
 
 mod answering;
-mod found;
 mod handle;
-mod loose;
 mod place;
-mod room;
 mod serving;
 mod session;
 mod status;
 
-ghost use Rattle.std.specs.Prelude.{◌≡◌, ◌≢◌, ◌≤◌, ℕ, Option, take};
+ghost use Rattle.std.specs.Prelude.{◌≡◌, ◌≢◌, ◌<◌, ◌≤◌, ℕ, List, [], IfSome, None, Option, Some, length};
+ghost use Rattle.cli_audit.specs.Running.{IsAnswer};
 ghost use Rattle.cli_tool.specs.ToolAnswers.{IsChecked};
 ghost use Rattle.cli_tool.specs.declared.style.Style.TheVariants.{Plain};
-ghost use Rattle.world_page.specs.Statuses.{Names};
+ghost use Rattle.cli_calls.specs.Told.{IsPut, Names};
+ghost use Rattle.world_page.specs.Held.{held_by};
+ghost use Rattle.world_page.specs.Lines.{GoesOn};
 
 use crate::answering::{audited, looked_at};
 use crate::serving::{closed, gone_on, lines_taken, opened, stopped};
 use crate::status::Status;
-pub use found::Found;
+use cli_calls::Found;
 pub use handle::Handle;
 pub use place::Place;
 use std::alloc::Global;
@@ -39,7 +39,7 @@ pub extern "C" fn voumlis_page_open(
     found: &mut Found,
 ) -> u32
     ensures occupied { page.old.live ≢ 0 → result ≡ 2 }
-    ensures opened { result ≡ 0 → page.new.live ≡ 1 }
+    ensures opened { result ≡ 0 → (page.new.live ≡ 1) × (held_by page.new ≡ Some []) }
     ensures unopened { result ≢ 0 → page.new ≡ page.old }
     ensures statuses { result ≤ 5 }
 {
@@ -60,8 +60,10 @@ pub extern "C" fn voumlis_page_go_on(
     events: u32,
     found: &mut Found,
 ) -> u32
+    ensures lines { IfSome (held_by page.old) (λ waiting.
+        (left : List ℕ) × (held_by page.new ≡ Some left) × GoesOn waiting left × (found.new.length ≡ length left)) }
     ensures dead { page.old.live ≢ 1 → (result ≡ 2) × (page.new.live ≡ 0) }
-    ensures live { page.old.live ≡ 1 → page.new.live ≡ 1 }
+    ensures live { page.old.live ≡ 1 → (page.new.live ≡ 1) × (result ≢ 2) }
     ensures statuses { result ≤ 5 }
 {
     gone_on(alloc, page, events, found).number()
@@ -72,8 +74,10 @@ pub extern "C" fn voumlis_page_go_on(
 /// Answers 0 where none is played any more, 1 where memory ran out, which stays so, and 2 where no text is open.
 #[unsafe(no_mangle)]
 pub extern "C" fn voumlis_page_stop(alloc: Global, page: &mut Handle, found: &mut Found) -> u32
+    ensures lines { IfSome (held_by page.old) (λ waiting.
+        (left : List ℕ) × (held_by page.new ≡ Some left) × GoesOn waiting left × (found.new.length ≡ length left)) }
     ensures dead { page.old.live ≢ 1 → (result ≡ 2) × (page.new.live ≡ 0) }
-    ensures live { page.old.live ≡ 1 → page.new.live ≡ 1 }
+    ensures live { page.old.live ≡ 1 → (page.new.live ≡ 1) × (result ≢ 2) }
     ensures statuses { result ≤ 5 }
 {
     stopped(alloc, page, found).number()
@@ -89,8 +93,12 @@ pub extern "C" fn voumlis_page_lines(
     room: &mut [u8],
     found: &mut Found,
 ) -> u32
+    ensures taken { IfSome (held_by page.old) (λ waiting. result ≡ 0 → IsPut waiting room.old room.new × (held_by page.new ≡ Some [])) }
+    ensures no_room { IfSome (held_by page.old) (λ waiting.
+        result ≢ 0 → (length room.old < length waiting) × (held_by page.new ≡ Some waiting)) }
+    ensures length { IfSome (held_by page.old) (λ waiting. found.new.length ≡ length waiting) }
     ensures dead { page.old.live ≢ 1 → (result ≡ 2) × (page.new.live ≡ 0) }
-    ensures live { page.old.live ≡ 1 → page.new.live ≡ 1 }
+    ensures live { page.old.live ≡ 1 → (page.new.live ≡ 1) × (result ≢ 2) }
     ensures unwritten { result ≢ 0 → room.new ≡ room.old }
     ensures statuses { result ≤ 3 }
 {
@@ -102,7 +110,7 @@ pub extern "C" fn voumlis_page_lines(
 pub extern "C" fn voumlis_page_close(alloc: Global, page: &mut Handle) -> u32
     ensures live { page.old.live ≡ 1 → result ≡ 0 }
     ensures dead { page.old.live ≢ 1 → result ≡ 2 }
-    ensures left { page.new.live ≡ 0 }
+    ensures left { (page.new.live ≡ 0) × (held_by page.new ≡ None) }
 {
     closed(alloc, page).number()
 }
@@ -121,8 +129,14 @@ pub extern "C" fn voumlis_page_audit(
 ) -> u32
     ensures nobody { members ≡ 0 → result ≡ 2 }
     ensures somebody { members ≢ 0 → result ≢ 2 }
+    ensures audited { result ≡ 0
+        → (text : List ℕ) × (fault : Option ℕ) × IsAnswer members reports.now fault text × Names found.new.named found.new.place fault
+        × (found.new.length ≡ length text) × IsPut text room.old room.new }
+    ensures no_room { result ≡ 3
+        → (text : List ℕ) × (fault : Option ℕ) × IsAnswer members reports.now fault text × Names found.new.named found.new.place fault
+        × (found.new.length ≡ length text) × (length room.old < length text) }
     ensures unwritten { result ≢ 0 → room.new ≡ room.old }
-    ensures statuses { result ≤ 5 }
+    ensures statuses { result ≤ 4 }
 {
     if members == 0 {
         return Status::Argument.number();
@@ -146,8 +160,11 @@ pub extern "C" fn voumlis_page_record(
     ensures nobody { members ≡ 0 → result ≡ 2 }
     ensures somebody { members ≢ 0 → result ≢ 2 }
     ensures checked { result ≡ 0
-        → (named : Option ℕ) × Names found.new.named found.new.place named × IsChecked Plain member members stored.now
-        (take found.new.length room.new) named }
+        → (text : List ℕ) × (named : Option ℕ) × IsChecked Plain member members stored.now text named
+        × Names found.new.named found.new.place named × (found.new.length ≡ length text) × IsPut text room.old room.new }
+    ensures no_room { result ≡ 3
+        → (text : List ℕ) × (named : Option ℕ) × IsChecked Plain member members stored.now text named
+        × Names found.new.named found.new.place named × (found.new.length ≡ length text) × (length room.old < length text) }
     ensures unwritten { result ≢ 0 → room.new ≡ room.old }
     ensures statuses { result ≤ 3 }
 {

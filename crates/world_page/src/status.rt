@@ -1,7 +1,9 @@
 //! What a call answers, as a number.
 
-ghost use Rattle.std.specs.Prelude.{◌≡◌};
+ghost use Rattle.std.specs.Prelude.{◌≡◌, ◌≢◌, false, true};
 ghost use Rattle.world_page.specs.Statuses.{status_number};
+
+use world_network::Broken;
 
 /// How a call ended.
 #[derive(Drop)]
@@ -35,4 +37,23 @@ impl Status {
             Status::Setup => 5,
         }
     }
+}
+
+/// The status of what is broken off.
+pub(crate) fn failed(broken: Broken) -> Status
+    ensures { (result ≢ Status.Done) × (result ≢ Status.Argument) × (result ≢ Status.Room) }
+{
+    match broken {
+        Broken::Memory => Status::Memory,
+        Broken::Device => Status::Device,
+        Broken::Setup => Status::Setup,
+    }
+}
+
+/// Whether an answer fitted.
+pub(crate) fn fitted(fits: bool) -> Status
+    ensures done { fits ≡ true → result ≡ Status.Done }
+    ensures room { fits ≡ false → result ≡ Status.Room }
+{
+    if fits { Status::Done } else { Status::Room }
 }
