@@ -35,13 +35,13 @@ module _ (g : Ghosts plain.Committee (List ℕ) ℕ (List ℕ) Listed) (e : elec
   pub begun_of : {B : Type 0} (session : Result B OpenFault) (value : B → SessionState) (s : Setup plain.Committee (List ℕ) Listed) (opened : Result Hosted OpenFault) (before after : List ℕ)
       → before ≡ []
       → IfOk opened (λ node. (first : PlainReply) × (first.refused ≡ None) × (after ≡ before ++ w first)
-        × IsOpenAndSettled g e k (formats (g.size s.voter.scheme)) s Readable (One on) 0 node first.actions.items)
+      × IsOpenAndSettled g e k (formats (g.size s.voter.scheme)) s Readable (One on) 0 node first.actions.items)
       → IfOk session (λ b. (opened ≡ Ok (value b).node) × ((value b).replies ≡ after))
       → IfOk session (λ b. IsBegun g e k formats w Readable s stored (value b))
   begun_of (Err why) value s opened before after none opens has = has
   begun_of (Ok b) value s opened before after none opens (is, same) =
       let there = subst (λ (o : Result Hosted OpenFault). IfOk o (λ node. (first : PlainReply) × (first.refused ≡ None) × (after ≡ before ++ w first)
-        × IsOpenAndSettled g e k (formats (g.size s.voter.scheme)) s Readable (One on) 0 node first.actions.items)) is opens in
+      × IsOpenAndSettled g e k (formats (g.size s.voter.scheme)) s Readable (One on) 0 node first.actions.items)) is opens in
       record {
         first = there.0;
         refused = there.1;
@@ -53,16 +53,19 @@ module _ (g : Ghosts plain.Committee (List ℕ) ℕ (List ℕ) Listed) (e : elec
   pub begun_by_of : {B : Type 0} (session : Result B OpenFault) (value : B → SessionState) (c : Committee) (s : Rotation → Setup plain.Committee (List ℕ) Listed) (opened : Result Hosted OpenFault)
       (before after : List ℕ) → before ≡ []
       → IfOk opened (λ node. (leaders : Rotation) × (first : PlainReply) × AreLeaders c leaders × (first.refused ≡ None) × (after ≡ before ++ w first)
-        × IsOpenAndSettled g e k (formats (g.size (s leaders).voter.scheme)) (s leaders) Readable (One on) 0 node first.actions.items)
+      × IsOpenAndSettled g e k (formats (g.size (s leaders).voter.scheme)) (s leaders) Readable (One on) 0 node first.actions.items)
       → IfOk session (λ b. (opened ≡ Ok (value b).node) × ((value b).replies ≡ after))
       → IfOk session (λ b. (leaders : Rotation) × AreLeaders c leaders × IsBegun g e k formats w Readable (s leaders) stored (value b))
   begun_by_of (Err why) value c s opened before after none opens has = has
   begun_by_of (Ok b) value c s opened before after none opens (is, same) =
       let there = subst (λ (o : Result Hosted OpenFault). IfOk o (λ node. (leaders : Rotation) × (first : PlainReply) × AreLeaders c leaders × (first.refused ≡ None) × (after ≡ before ++ w first)
-        × IsOpenAndSettled g e k (formats (g.size (s leaders).voter.scheme)) (s leaders) Readable (One on) 0 node first.actions.items)) is opens in
-      (there.0, there.2, record {
-        first = there.1;
-        refused = there.3;
-        replied = same ∙ (there.4 ∙ ap (λ (xs : List ℕ). xs ++ w there.1) none);
-        opens = subst (λ (d : HostedState). IsOpenAndSettled g e k (formats (g.size (s there.0).voter.scheme)) (s there.0) Readable (One d) 0 (value b).node there.1.actions.items) fresh there.5;
-      })
+      × IsOpenAndSettled g e k (formats (g.size (s leaders).voter.scheme)) (s leaders) Readable (One on) 0 node first.actions.items)) is opens in (
+        there.0,
+        there.2,
+        record {
+          first = there.1;
+          refused = there.3;
+          replied = same ∙ (there.4 ∙ ap (λ (xs : List ℕ). xs ++ w there.1) none);
+          opens = subst (λ (d : HostedState). IsOpenAndSettled g e k (formats (g.size (s there.0).voter.scheme)) (s there.0) Readable (One d) 0 (value b).node there.1.actions.items) fresh there.5;
+        },
+      )

@@ -11,8 +11,8 @@ ghost use Rattle.cli_hosted.specs.Statuses.{status_number};
 
 use cli_calls::Found;
 use cli_hosted::{
-    Handle, Promised, Promises, Status, Views, closed, opened, replies_taken,
-    requests_taken, stepped, views_told,
+    Handle, Promised, Promises, Status, Views, closed, opened, replies_taken, requests_taken,
+    stepped, views_told,
 };
 use std::alloc::Global;
 

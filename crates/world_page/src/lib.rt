@@ -5,6 +5,7 @@
 
 mod answering;
 mod handle;
+mod lines;
 mod place;
 mod serving;
 mod session;

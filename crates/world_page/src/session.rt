@@ -1,12 +1,13 @@
 //! The scenarios of a text between two calls.
 
-ghost use Rattle.std.specs.Prelude.{◌≡◌, [], false, length, true, IfOk, OnErr, OnOk, ◌++◌};
+ghost use Rattle.std.specs.Prelude.{◌≡◌, [], IfOk, false, length, true};
 ghost use Rattle.cli_calls.specs.Told.{AreTaken, WaitOn};
 ghost use Rattle.world_page.specs.Lines.{GoesOn};
 
-use cli_calls::{Found, taken};
+use crate::lines::Lines;
+use cli_calls::Found;
 use simplex_types::PlainScheme;
-use std::alloc::{AllocError, Global};
+use std::alloc::Global;
 use std::marker::Model;
 use types_terms::RoundRobinElector;
 use world_network::{Broken, TornDisk};
@@ -20,9 +21,7 @@ type Seated = Keeper<PlainScheme, RoundRobinElector, TornDisk>;
 #[derive(Drop)]
 pub(crate) struct Session {
     stage: Stage<PlainScheme, Seated>,
-    lines: Vec<u8>,
-    /// Whether lines were lost for want of memory.
-    lost: bool,
+    lines: Lines,
 }
 
 // Of a world nothing is told but its lines that wait.
@@ -31,7 +30,7 @@ impl Model for Session {
 
     ghost Value = { List ℕ };
 
-    ghost view = { λ session. session.lines.items };
+    ghost view = { λ session. session.lines };
 }
 
 impl Session {
@@ -44,8 +43,7 @@ impl Session {
             alloc,
             Session {
                 stage,
-                lines: Vec::new(alloc),
-                lost: false,
+                lines: Lines::new(alloc),
             },
         )
     }
@@ -54,42 +52,18 @@ impl Session {
     pub(crate) fn go_on(&mut self, alloc: Global, events: u32) -> Result<bool, Broken>
         ensures { GoesOn self.old self.new }
     {
-        self.whole()?;
         let mut more = Vec::new(alloc);
         let gone = self.stage.go_on(events, &mut more);
-        self.keep(more)?;
-        gone
+        self.lines.keep(more, gone)
     }
 
     /// Ends the scenario that is played, if one is; its lines wait behind those that do.
     pub(crate) fn stop(&mut self, alloc: Global) -> Result<(), Broken>
         ensures { GoesOn self.old self.new }
     {
-        self.whole()?;
         let mut more = Vec::new(alloc);
         let ended = self.stage.stop(&mut more);
-        self.keep(more)?;
-        ended
-    }
-
-    /// Fails where lines were lost.
-    fn whole(&self) -> Result<(), Broken> {
-        if self.lost {
-            return Err(Broken::Memory);
-        }
-        Ok(())
-    }
-
-    /// Has these lines wait behind those that do.
-    fn keep(&mut self, more: Vec<u8>) -> Result<(), Broken>
-        ensures done { OnOk result (self.new ≡ self.old ++ more.items) }
-        ensures lost { OnErr result (self.new ≡ self.old) }
-    {
-        if append(&mut self.lines, more).is_err() {
-            self.lost = true;
-            return Err(Broken::Memory);
-        }
-        Ok(())
+        self.lines.keep(more, ended)
     }
 
     /// The greatest status of the runs so far.
@@ -110,20 +84,8 @@ impl Session {
         ensures no_room { result ≡ false → WaitOn self.old self.new room.old room.new }
         ensures length { found.new.length ≡ length self.old }
     {
-        taken(&mut self.lines, room, found)
+        self.lines.take(room, found)
     }
-}
-
-/// Puts lines behind lines, or leaves them.
-fn append(lines: &mut Vec<u8>, more: Vec<u8>) -> Result<(), AllocError>
-    ensures done { OnOk result (lines.new.items ≡ lines.old.items ++ more.items) }
-    ensures same { OnErr result (lines.new.items ≡ lines.old.items) }
-{
-    if lines.is_empty() {
-        *lines = more;
-        return Ok(());
-    }
-    lines.extend_from_slice(&more)
 }
 
 /// A value in a box.
