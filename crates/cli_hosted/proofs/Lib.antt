@@ -1,4 +1,4 @@
-pub mod Begun
+pub mod Places
+pub mod Values
 pub mod Looked
 pub mod Opens
-pub mod Places

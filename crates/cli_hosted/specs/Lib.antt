@@ -1,7 +1,6 @@
-pub mod Held
 pub mod HostedDisk
-pub mod Hosting
+pub mod Members
+pub mod Place
 pub mod Requests
 pub mod Serving
-pub mod Sessions
 pub mod Statuses

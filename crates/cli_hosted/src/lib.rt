@@ -2,18 +2,21 @@
 #![tactic(auto)]
 
 mod disk;
+mod found;
 mod handle;
+mod loose;
 mod place;
-mod promises;
 mod requests;
+mod room;
 mod serving;
 mod session;
 mod status;
 mod views;
 
+pub use found::Found;
 pub use handle::Handle;
 pub use place::Place;
-pub use promises::{Promised, Promises};
+pub use room::put;
 pub use serving::{closed, opened, opened_by, replies_taken, requests_taken, stepped, views_told};
-pub use status::{Status, fitted};
+pub use status::Status;
 pub use views::Views;

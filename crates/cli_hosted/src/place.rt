@@ -1,12 +1,9 @@
 //! Where a node lies between two calls.
 
-ghost use Rattle.std.specs.Prelude.{◌≡◌, IsSome, None, Option, Some};
-ghost use Rattle.std.specs.Coded.{coded_option};
-ghost use Rattle.cli_hosted.specs.Sessions.{SessionState};
-ghost use Rattle.cli_hosted.specs.contracts.session.Session.{the_row};
+ghost use Rattle.std.specs.Prelude.{◌≡◌, ℕ};
 
+use crate::loose::Loose;
 use crate::session::Session;
-use cli_calls::Loose;
 use std::alloc::{Allocator, Global};
 use std::marker::Model;
 use std::ptr;
@@ -17,20 +14,20 @@ use std::ptr;
 pub struct Place {
     at: *mut u8,
     alloc: Global,
-    pub ghost held: { Option SessionState } by { coded_option the_row.coded },
+    pub ghost full: { ℕ },
 }
 
 impl Model for Place {
-    ghost use Rattle.cli_calls.specs.Kept.{owned};
+    ghost use Rattle.cli_hosted.specs.Place.{owned};
     ghost use Rattle.cli_hosted.specs.contracts.session.Session.{the_row};
 
-    ghost also_owns = { λ p. owned (⟦<Global as Allocator>⟧.dealloc_token p.alloc) the_row p.held p.at };
+    ghost also_owns = { λ p. owned (⟦<Global as Allocator>⟧.dealloc_token p.alloc) the_row p.full p.at tt };
 }
 
 impl Place {
     /// Nothing.
     pub(crate) fn nothing(alloc: Global) -> Place
-        ensures { result.held ≡ None }
+        ensures { result.full ≡ 0 }
     {
         Place {
             at: ptr::null_mut(),
@@ -40,7 +37,7 @@ impl Place {
 
     /// The place of this node.
     pub(crate) fn hiding(session: Loose<Session, Global>) -> Place
-        ensures { result.held ≡ Some session.value }
+        ensures { result.full ≡ 1 }
     {
         let Loose { at, alloc } = session;
         Place {
@@ -51,8 +48,7 @@ impl Place {
 
     /// The node that lies here.
     pub(crate) fn shown(self) -> Loose<Session, Global>
-        requires { IsSome self.held }
-        ensures { self.held ≡ Some result.value }
+        requires { self.full ≡ 1 }
     {
         let Place { at, alloc } = self;
         Loose {

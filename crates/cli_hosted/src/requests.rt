@@ -1,9 +1,9 @@
 //! What a host is asked to do with the bytes that it keeps.
 
-ghost use Rattle.std.specs.Prelude.{◌≡◌, ◌++◌, OnErr, OnOk, false};
+ghost use Rattle.std.specs.Prelude.{◌≡◌, ◌++◌, ◌≤◌, ◌<◌, [], ◌⊎◌, length, take, Ok, Err, OnErr, OnOk};
 ghost use Rattle.cli_hosted.specs.Requests.{cutting, fixing, number, writing};
 
-use cli_calls::{Found, taken};
+use crate::room::put;
 use std::alloc::{AllocError, Global};
 use std::cell::RefCell;
 use std::rc::Rc;
@@ -29,17 +29,13 @@ impl Requests {
         })
     }
 
-    /// Takes what was asked, where it fits at the front of the room, and tells its size. Whether it fits.
-    pub(crate) fn take(&self, room: &mut [u8], found: &mut Found) -> bool
-        ensures no_room { result ≡ false → room.new ≡ room.old }
-        ensures unnamed { found.new.named ≡ 0 }
+    /// Puts all that was asked at the front of the room and forgets it, where it fits, and answers its size.
+    pub(crate) fn take(&self, room: &mut [u8]) -> Result<usize, usize>
+        ensures { OnErr result (room.new ≡ room.old) }
     {
         match self.list.try_borrow_mut() {
-            Ok(mut list) => taken(&mut list, room, found),
-            Err(_) => {
-                found.tell(usize::MAX, None);
-                false
-            }
+            Ok(mut list) => take_all(&mut list, room),
+            Err(_) => Err(usize::MAX),
         }
     }
 
@@ -66,6 +62,23 @@ impl Requests {
             Err(_) => Err(AllocError),
         }
     }
+}
+
+/// Puts all at the front of the room and empties the list, where it fits, and answers its size.
+pub(crate) fn take_all(list: &mut Vec<u8>, room: &mut [u8]) -> Result<usize, usize>
+    ensures taken { OnOk result (list.new.items ≡ []) }
+    ensures done { OnOk result ((length list.old.items ≤ length room.old) × (take (length list.old.items) room.new ≡ list.old.items)) }
+    ensures size { (size : _) → (result ≡ Ok size ⊎ result ≡ Err size) → size ≡ length list.old.items }
+    ensures no_room { OnErr result (length room.old < length list.old.items) }
+    ensures unwritten { OnErr result (room.new ≡ room.old) }
+    ensures kept { OnErr result (list.new.items ≡ list.old.items) }
+{
+    let size = list.len();
+    if !put(list.as_slice(), room) {
+        return Err(size);
+    }
+    list.clear();
+    Ok(size)
 }
 
 /// Ends the list with this request, or leaves it as it was.

@@ -1,28 +1,26 @@
 //! Calls on a member's node.
 
-ghost use Rattle.std.specs.Prelude.{◌≡◌, ◌≢◌, ◌<◌, ◌≤◌, ◌⊎◌, [], IfErr, IfOk, IfSome, None, Result, Some, ⊤, false, length, true};
+ghost use Rattle.std.specs.Prelude.{◌≡◌, ◌≢◌, ◌<◌, ◌≤◌, ◌⊎◌, Ok, Err, IfErr, IfOk, false, true};
 ghost use Rattle.journal_look.specs.Look.{BeginsLikeOne};
-ghost use Rattle.cli_settings.specs.Checking.{IsGood};
+ghost use Rattle.cli_settings.specs.Checking.{HasTurns, IsGood};
 ghost use Rattle.cli_opening.specs.Looking.{IsBeyondCut};
-ghost use Rattle.cli_opening.specs.Members.{IsBarredFor, IsFoundFor};
-ghost use Rattle.simplex_member.specs.declared.fault.IoFault.{IoFault as Ending};
-ghost use Rattle.cli_hosted.specs.Held.{held_by};
-ghost use Rattle.cli_calls.specs.Told.{IsPut, Names};
-ghost use Rattle.cli_hosted.specs.Statuses.{status_number};
+ghost use Rattle.cli_hosted.specs.Members.{IsBarredFor, IsFoundFor, owner_of};
+ghost use Rattle.cli_hosted.specs.Statuses.{Names, status_number};
 ghost use Rattle.cli_hosted.specs.Serving.{IsLookedAt, IsLookedAtBy, IsTornAt, IsTornBy, barred_place, barred_status, ending_status, run_place, run_status, unopened_place, unopened_status, unstepped_status};
-ghost use Rattle.cli_hosted.specs.Sessions.{SessionState};
 ghost use Rattle.cli_hosted.specs.declared.status.Status.TheVariants.{Argument, Device, Done, Foreign, Invalid, NoRecord, Refused, Room, Torn};
 
+use crate::found::Found;
 use crate::handle::Handle;
-use crate::promises::{Promised, Promises};
+use crate::requests::take_all;
 use crate::session::Session;
-use crate::status::{Status, fitted};
+use crate::status::Status;
 use crate::views::Views;
-use cli_calls::Found;
-use cli_opening::{Barred, Found as Looked, look_at, look_at_by, owner_by};
+use cli_opening::{Barred, Found as Looked, look_at, look_at_by};
 use cli_settings::Settings;
 use simplex_member::{IoFault, NodeFault, OpenFault};
+use simplex_record::Owner;
 use std::alloc::Global;
+use types_core::{Participant, TermLength};
 
 /// Opens a member's node over its record, where none is open yet and these bytes are one as a crash may leave it. Where `cuts`, its last
 /// gate and what stands behind it may be anything.
@@ -37,9 +35,6 @@ pub fn opened(
     found: &mut Found,
 ) -> Status
     requires { member < members }
-    ensures begun { result ≡ Done
-        → (state : SessionState) × (held_by node.new ≡ Some state)
-        × ⟦<Promised as Promises>⟧.begun_as member members stored.now state }
     ensures opened { result ≡ Done → node.new.live ≡ 1 }
     ensures unopened { result ≢ Done → node.new ≡ node.old }
     ensures looked { result ≡ Done → IsLookedAt member members cuts stored.now }
@@ -66,8 +61,6 @@ pub fn opened_by(
     found: &mut Found,
 ) -> Status
     requires { IsGood settings.now }
-    ensures begun { result ≡ Done
-        → (state : SessionState) × (held_by node.new ≡ Some state) × ⟦<Promised as Promises>⟧.begun_by settings.now stored.now state }
     ensures opened { result ≡ Done → node.new.live ≡ 1 }
     ensures unopened { result ≢ Done → node.new ≡ node.old }
     ensures looked { result ≡ Done → IsLookedAtBy settings.now cuts stored.now }
@@ -96,10 +89,21 @@ fn look_by(alloc: Global, settings: &Settings, cuts: bool, stored: &[u8]) -> Res
     }
 }
 
+/// Whose record a member's is by its settings.
+fn owner_by(settings: &Settings) -> Owner
+    requires { HasTurns settings.now.committee.turns }
+    ensures { result ≡ owner_of settings.now }
+{
+    let committee = &settings.committee;
+    Owner {
+        epoch: committee.epoch,
+        term_length: TermLength::new(committee.turns.length),
+        signer: Participant::new(settings.member),
+    }
+}
+
 /// What became of an opening.
 fn begun(opening: Result<Box<Session>, OpenFault>, node: &mut Handle, found: &mut Found) -> Status
-    ensures held { IfOk opening (λ session. held_by node.new ≡ Some session.value) }
-    ensures not_held { IfErr opening (λ _. result ≢ Done) }
     ensures opened { result ≡ Done → node.new.live ≡ 1 }
     ensures unopened { result ≢ Done → node.new ≡ node.old }
     ensures bound { status_number result ≤ 10 }
@@ -146,10 +150,6 @@ fn place_of(why: Barred) -> Option<u64>
 
 /// Has the node answer events.
 pub fn stepped(alloc: Global, node: &mut Handle, events: &[u8], found: &mut Found) -> Status
-    ensures answered { IfSome (held_by node.old) (λ old.
-        (new : SessionState) × (ended : Result ⊤ Ending) × (held_by node.new ≡ Some new)
-        × ⟦<Promised as Promises>⟧.answered old events.now ended new × (result ≡ run_status ended)
-        × Names found.new.named found.new.place (run_place ended)) }
     ensures dead { node.old.live ≢ 1 → (result ≡ Argument) × (node.new.live ≡ 0) }
     ensures live { node.old.live ≡ 1 → node.new.live ≡ 1 }
     ensures named { result ≡ Invalid → found.new.named ≡ 1 }
@@ -171,7 +171,6 @@ pub fn requests_taken(
     room: &mut [u8],
     found: &mut Found,
 ) -> Status
-    ensures held { held_by node.new ≡ held_by node.old }
     ensures dead { node.old.live ≢ 1 → (result ≡ Argument) × (node.new.live ≡ 0) }
     ensures live { node.old.live ≡ 1 → node.new.live ≡ 1 }
     ensures answers { (result ≡ Done) ⊎ ((result ≡ Argument) ⊎ (result ≡ Room)) }
@@ -181,18 +180,13 @@ pub fn requests_taken(
     let Some(session) = node.taken(alloc) else {
         return Status::Argument;
     };
-    let fits = session.requests().take(room, found);
+    let taken = session.requests().take(room);
     *node = Handle::of(session);
-    fitted(fits)
+    fitted(taken, found)
 }
 
 /// Puts the replies at the front of the room, where they fit.
 pub fn replies_taken(alloc: Global, node: &mut Handle, room: &mut [u8], found: &mut Found) -> Status
-    ensures taken { IfSome (held_by node.old) (λ old.
-        result ≡ Done → IsPut old.replies room.old room.new × (held_by node.new ≡ Some (record old { replies = [] }))) }
-    ensures no_room { IfSome (held_by node.old) (λ old.
-        result ≢ Done → (length room.old < length old.replies) × (held_by node.new ≡ Some old)) }
-    ensures length { IfSome (held_by node.old) (λ old. found.new.length ≡ length old.replies) }
     ensures dead { node.old.live ≢ 1 → (result ≡ Argument) × (node.new.live ≡ 0) }
     ensures live { node.old.live ≡ 1 → node.new.live ≡ 1 }
     ensures answers { (result ≡ Done) ⊎ ((result ≡ Argument) ⊎ (result ≡ Room)) }
@@ -202,15 +196,13 @@ pub fn replies_taken(alloc: Global, node: &mut Handle, room: &mut [u8], found: &
     let Some(mut session) = node.taken(alloc) else {
         return Status::Argument;
     };
-    let fits = session.take_replies(room, found);
+    let taken = take_all(session.replies(), room);
     *node = Handle::of(session);
-    fitted(fits)
+    fitted(taken, found)
 }
 
 /// Tells the view that the node is in, and the last that is final.
 pub fn views_told(alloc: Global, node: &mut Handle, views: &mut Views) -> Status
-    ensures held { held_by node.new ≡ held_by node.old }
-    ensures views { IfSome (held_by node.old) (λ state. ⟦<Promised as Promises>⟧.is_in state views.new.current views.new.finalized) }
     ensures dead { node.old.live ≢ 1 → (result ≡ Argument) × (node.new.live ≡ 0) × (views.new ≡ views.old) }
     ensures live { node.old.live ≡ 1 → (result ≡ Done) × (node.new.live ≡ 1) }
 {
@@ -226,7 +218,6 @@ pub fn views_told(alloc: Global, node: &mut Handle, views: &mut Views) -> Status
 
 /// Lets the node go.
 pub fn closed(alloc: Global, node: &mut Handle) -> Status
-    ensures held { held_by node.new ≡ None }
     ensures live { node.old.live ≡ 1 → result ≡ Done }
     ensures dead { node.old.live ≢ 1 → result ≡ Argument }
     ensures left { node.new.live ≡ 0 }
@@ -234,6 +225,24 @@ pub fn closed(alloc: Global, node: &mut Handle) -> Status
     match node.taken(alloc) {
         Some(_) => Status::Done,
         None => Status::Argument,
+    }
+}
+
+/// Whether an answer fitted, and its size.
+fn fitted(taken: Result<usize, usize>, found: &mut Found) -> Status
+    ensures done { result ≡ Done → taken ≡ Ok found.new.length }
+    ensures room { result ≢ Done → (result ≡ Room) × (taken ≡ Err found.new.length) }
+    ensures unnamed { found.new.named ≡ 0 }
+{
+    match taken {
+        Ok(size) => {
+            found.tell(size, None);
+            Status::Done
+        }
+        Err(size) => {
+            found.tell(size, None);
+            Status::Room
+        }
     }
 }
 

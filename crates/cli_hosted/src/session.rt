@@ -1,26 +1,20 @@
 //! A member's node between two calls.
 
-ghost use Rattle.std.specs.Prelude.{◌≡◌, ◌<◌, ◌++◌, ℕ, [], IfOk, None, Ok, Some, false, length, true};
+ghost use Rattle.std.specs.Prelude.{◌≡◌, ◌<◌, ◌++◌, ℕ, IfOk, None, Some};
 ghost use Rattle.cli_settings.specs.Building.{config_of};
-ghost use Rattle.cli_opening.specs.Members.{AreLeaders, committee_of};
 ghost use Rattle.cli_settings.specs.Checking.{IsGood};
-ghost use Rattle.cli_calls.specs.Told.{IsPut};
-ghost use Rattle.cli_hosted.specs.Hosting.{over};
+ghost use Rattle.cli_hosted.specs.Members.{AreLeaders, PlainReply, committee_of};
 ghost use Rattle.journal_books.specs.declared.disks.Disks.TheVariants.{One};
-ghost use Rattle.cli_hosted.specs.Sessions.{PlainReply, SessionState};
 ghost use Rattle.simplex_member.specs.declared.action.Reply.{Reply};
 ghost use Rattle.simplex_member.specs.Setup.{setup_of};
-ghost use Rattle.node_steps.specs.Keeps.{AtOwn, has_failed};
+ghost use Rattle.node_steps.specs.Keeps.{AtOwn};
 ghost use Rattle.node_steps.specs.Opening.{IsOpenAndSettled};
-ghost use Rattle.simplex_cli.specs.Settings.{program_committee, program_config, program_rotation};
 ghost use Rattle.simplex_node.specs.Running.{RunFails, RunsTo};
 ghost use Rattle.node_wire.specs.Streaming.{EndsIn, spelled};
 ghost use Rattle.types_terms.specs.Rotation.{Rotation};
 
 use crate::disk::HostedDisk;
-use crate::promises::{Promised, Promises};
 use crate::requests::Requests;
-use cli_calls::{Found, taken};
 use cli_settings::Settings;
 use journal_single::Disk;
 use node_steps::Node;
@@ -60,13 +54,13 @@ impl Drop for Session {
     }
 }
 
-// Of its requests nothing is told: no clause speaks of the list that it shares with the disk.
+// Nothing of a node is told between two calls.
 impl Model for Session {
-    ghost use Rattle.cli_hosted.specs.Sessions.{PlainReply, SessionState};
+    ghost use Rattle.std.specs.Prelude.{⊤};
 
-    ghost Value = { SessionState };
+    ghost Value = { ⊤ };
 
-    ghost view = { λ session. record { node = session.node; replies = session.replies.items } };
+    ghost view = { λ _. tt };
 }
 
 impl Session {
@@ -78,7 +72,6 @@ impl Session {
         stored: &[u8],
     ) -> Result<Box<Session>, OpenFault>
         requires { member < members }
-        ensures { IfOk result (λ it. ⟦<Promised as Promises>⟧.begun_as member members stored.now it.value) }
     {
         let Ok((disk, requests)) = hosted(alloc, stored) else {
             return Err(OpenFault::Memory);
@@ -95,7 +88,6 @@ impl Session {
         stored: &[u8],
     ) -> Result<Box<Session>, OpenFault>
         requires { IsGood settings.now }
-        ensures { IfOk result (λ it. ⟦<Promised as Promises>⟧.begun_by settings.now stored.now it.value) }
     {
         let Ok((disk, requests)) = hosted(alloc, stored) else {
             return Err(OpenFault::Memory);
@@ -106,10 +98,7 @@ impl Session {
     }
 
     /// Answers events, one behind another; the replies are put behind those that were not taken yet.
-    #[tactic(auto, using(crate::proofs::Begun::same_state))]
-    pub(crate) fn step(&mut self, alloc: Global, events: &[u8]) -> Result<(), IoFault>
-        ensures { ⟦<Promised as Promises>⟧.answered self.old events.now result self.new }
-    {
+    pub(crate) fn step(&mut self, alloc: Global, events: &[u8]) -> Result<(), IoFault> {
         go_on(alloc, &mut self.node, events, &mut self.replies)
     }
 
@@ -118,30 +107,20 @@ impl Session {
         &self.requests
     }
 
-    /// Takes the replies that wait, where they fit at the front of the room, and tells their size. Whether they fit.
-    pub(crate) fn take_replies(&mut self, room: &mut [u8], found: &mut Found) -> bool
-        ensures taken { result ≡ true → IsPut self.old.replies room.old room.new × (self.new ≡ record self.old { replies = [] }) }
-        ensures no_room { result ≡ false
-            → (length room.old < length self.old.replies) × (room.new ≡ room.old) × (self.new ≡ self.old) }
-        ensures length { found.new.length ≡ length self.old.replies }
-        ensures unnamed { found.new.named ≡ 0 }
-    {
-        taken(&mut self.replies, room, found)
+    /// The replies that were not taken yet.
+    pub(crate) fn replies(&mut self) -> &mut Vec<u8> {
+        &mut self.replies
     }
 
     /// The view that the node is in, and the last that is final.
-    pub(crate) fn views(&self) -> (u64, u64)
-        ensures { ⟦<Promised as Promises>⟧.is_in self.now result.0 result.1 }
-    {
+    pub(crate) fn views(&self) -> (u64, u64) {
         let current = self.node.current_view().get();
         (current, self.node.last_finalized().get())
     }
 }
 
 /// A disk over these bytes, and what it asks.
-fn hosted(alloc: Global, stored: &[u8]) -> Result<(HostedDisk, Requests), AllocError>
-    ensures { IfOk result (λ made. made.0 ≡ over stored.now) }
-{
+fn hosted(alloc: Global, stored: &[u8]) -> Result<(HostedDisk, Requests), AllocError> {
     let requests = Requests::new(alloc)?;
     let shared = requests.shared()?;
     let stored = Vec::from_slice(alloc, stored)?;
@@ -164,9 +143,7 @@ fn held(
     node: Result<Hosted, OpenFault>,
     requests: Requests,
     replies: Vec<u8>,
-) -> Result<Box<Session>, OpenFault>
-    ensures { IfOk result (λ it. node ≡ Ok it.value.node × (it.value.replies ≡ replies.items)) }
-{
+) -> Result<Box<Session>, OpenFault> {
     match node {
         Ok(node) => boxed(
             alloc,
@@ -189,15 +166,6 @@ fn set_up<K: Disk>(
     replies: &mut Vec<u8>,
 ) -> Result<Node<PlainScheme, RoundRobinElector, Sha256Digest, K>, OpenFault>
     requires { member < members }
-    ensures opened { IfOk result (λ node.
-        (first : PlainReply) × (first.refused ≡ None) ×
-        (replies.new.items ≡ replies.old.items ++ spelled ⟦<PlainKey as Write>⟧.spelling ⟦<Sha256Digest as Write>⟧.spelling
-        ⟦<PlainSignature as Write>⟧.spelling ⟦<AttestationList<PlainSignature> as Write>⟧.spelling first) ×
-        IsOpenAndSettled ⟦<PlainScheme as Scheme<Sha256Digest>>⟧ ⟦<RoundRobinElector as Elector<PlainScheme, Sha256Digest>>⟧ K.Disk
-        (⟦<PlainScheme as Speaks<Sha256Digest>>⟧.formats members)
-        (setup_of ⟦<PlainScheme as Scheme<Sha256Digest>>⟧ ⟦<RoundRobinElector as Elector<PlainScheme, Sha256Digest>>⟧
-        program_config (program_committee member members) (program_rotation members) member)
-        ⟦<PlainScheme as Speaks<Sha256Digest>>⟧.readable (One disk) 0 node first.actions.items) }
 {
     let Ok(scheme) = scheme(alloc, member, members) else {
         return Err(OpenFault::Memory);
@@ -274,11 +242,10 @@ fn go_on<S: Scheme<D> + Drop, L: Elector<S, D>, D: Digest, K: Disk>(
     events: &[u8],
     replies: &mut Vec<u8>,
 ) -> Result<(), IoFault>
-    ensures answered { AtOwn S.Scheme L.Elector K.Disk ⟦<S as Speaks<D>>⟧.formats node.old (λ f s h.
+    ensures { AtOwn S.Scheme L.Elector K.Disk ⟦<S as Speaks<D>>⟧.formats node.old (λ f s h.
         EndsIn D.fits D.spelling (spelled S.PublicKey.spelling D.spelling S.Signature.spelling S.Certificate.spelling) (D.reading 65535)
         (RunsTo S.Scheme L.Elector K.Disk f s h node.new) (RunFails S.Scheme L.Elector K.Disk f s h node.new) ⊥ result (Some events.now)
         (Some replies.old.items) (Some replies.new.items)) }
-    ensures failed { has_failed node.old ≡ true → (node.new ≡ node.old) × (replies.new.items ≡ replies.old.items) }
 {
     let mut input = events;
     let mut output = CountedWriter::new(mem::replace(replies, Vec::new(alloc)));

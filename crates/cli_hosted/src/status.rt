@@ -1,6 +1,6 @@
 //! What a call answers a host, as a number.
 
-ghost use Rattle.std.specs.Prelude.{◌≡◌, false, true};
+ghost use Rattle.std.specs.Prelude.{◌≡◌};
 ghost use Rattle.cli_hosted.specs.Statuses.{status_number};
 
 /// How a call ended.
@@ -71,12 +71,4 @@ impl Status {
             Status::NotFinal => 17,
         }
     }
-}
-
-/// Whether an answer fitted.
-pub fn fitted(fits: bool) -> Status
-    ensures done { fits ≡ true → result ≡ Status.Done }
-    ensures room { fits ≡ false → result ≡ Status.Room }
-{
-    if fits { Status::Done } else { Status::Room }
 }

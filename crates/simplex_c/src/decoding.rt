@@ -7,8 +7,7 @@ ghost use Rattle.cli_hosted.specs.Statuses.{status_number};
 ghost use Rattle.cli_hosted.specs.declared.status.Status.TheVariants.{Argument, Done, Memory, Room, Settings as Faulty, Version};
 ghost use Rattle.types_codec.specs.declared.codec.CodecError.TheVariants.{Memory as NoMemory};
 
-use cli_calls::Found;
-use cli_hosted::Status;
+use cli_hosted::{Found, Status};
 use cli_tool::{Kind, message_size};
 use std::alloc::Global;
 use types_core::CodecError;

@@ -1,18 +1,12 @@
 //! A member's node for callers in C, which hold it between two calls.
 
-ghost use Rattle.std.specs.Prelude.{◌≡◌, ◌≢◌, ◌<◌, ◌⊎◌, ◌≤◌, [], IfSome, None, Result, Some, length, ⊤};
+ghost use Rattle.std.specs.Prelude.{◌≡◌, ◌≢◌, ◌⊎◌, ◌≤◌};
 ghost use Rattle.journal_look.specs.Look.{BeginsLikeOne};
-ghost use Rattle.simplex_member.specs.declared.fault.IoFault.{IoFault};
-ghost use Rattle.cli_calls.specs.Told.{IsPut, Names};
-ghost use Rattle.cli_hosted.specs.Held.{held_by};
-ghost use Rattle.cli_hosted.specs.Serving.{IsLookedAt, IsTornAt, asks, run_place, run_status};
-ghost use Rattle.cli_hosted.specs.Sessions.{SessionState};
-ghost use Rattle.cli_hosted.specs.Statuses.{status_number};
+ghost use Rattle.cli_hosted.specs.Serving.{IsLookedAt, IsTornAt, asks};
 
-use cli_calls::Found;
 use cli_hosted::{
-    Handle, Promised, Promises, Status, Views, closed, opened, replies_taken, requests_taken,
-    stepped, views_told,
+    Found, Handle, Status, Views, closed, opened, replies_taken, requests_taken, stepped,
+    views_told,
 };
 use std::alloc::Global;
 
@@ -34,9 +28,6 @@ pub extern "C" fn voumlis_proved_node_open(
 ) -> u32
     ensures stranger { members ≤ member → result ≡ 2 }
     ensures occupied { node.old.live ≢ 0 → result ≡ 2 }
-    ensures begun { result ≡ 0
-        → (state : SessionState) × (held_by node.new ≡ Some state)
-        × ⟦<Promised as Promises>⟧.begun_as member members stored.now state }
     ensures opened { result ≡ 0 → node.new.live ≡ 1 }
     ensures unopened { result ≢ 0 → node.new ≡ node.old }
     ensures looked { result ≡ 0 → IsLookedAt member members (asks cuts) stored.now }
@@ -66,10 +57,6 @@ pub extern "C" fn voumlis_proved_node_step(
     events: &[u8],
     found: &mut Found,
 ) -> u32
-    ensures answered { IfSome (held_by node.old) (λ old.
-        (new : SessionState) × (ended : Result ⊤ IoFault) × (held_by node.new ≡ Some new)
-        × ⟦<Promised as Promises>⟧.answered old events.now ended new × (result ≡ status_number (run_status ended))
-        × Names found.new.named found.new.place (run_place ended)) }
     ensures dead { node.old.live ≢ 1 → (result ≡ 2) × (node.new.live ≡ 0) }
     ensures live { node.old.live ≡ 1 → node.new.live ≡ 1 }
     ensures named { result ≡ 5 → found.new.named ≡ 1 }
@@ -89,7 +76,6 @@ pub extern "C" fn voumlis_proved_node_requests(
     room: &mut [u8],
     found: &mut Found,
 ) -> u32
-    ensures held { held_by node.new ≡ held_by node.old }
     ensures dead { node.old.live ≢ 1 → (result ≡ 2) × (node.new.live ≡ 0) }
     ensures live { node.old.live ≡ 1 → node.new.live ≡ 1 }
     ensures unwritten { result ≢ 0 → room.new ≡ room.old }
@@ -109,11 +95,6 @@ pub extern "C" fn voumlis_proved_node_replies(
     room: &mut [u8],
     found: &mut Found,
 ) -> u32
-    ensures taken { IfSome (held_by node.old) (λ old.
-        result ≡ 0 → IsPut old.replies room.old room.new × (held_by node.new ≡ Some (record old { replies = [] }))) }
-    ensures no_room { IfSome (held_by node.old) (λ old.
-        result ≢ 0 → (length room.old < length old.replies) × (held_by node.new ≡ Some old)) }
-    ensures length { IfSome (held_by node.old) (λ old. found.new.length ≡ length old.replies) }
     ensures dead { node.old.live ≢ 1 → (result ≡ 2) × (node.new.live ≡ 0) }
     ensures live { node.old.live ≡ 1 → node.new.live ≡ 1 }
     ensures unwritten { result ≢ 0 → room.new ≡ room.old }
@@ -130,8 +111,6 @@ pub extern "C" fn voumlis_proved_node_views(
     node: &mut Handle,
     views: &mut Views,
 ) -> u32
-    ensures held { held_by node.new ≡ held_by node.old }
-    ensures views { IfSome (held_by node.old) (λ state. ⟦<Promised as Promises>⟧.is_in state views.new.current views.new.finalized) }
     ensures dead { node.old.live ≢ 1 → (result ≡ 2) × (node.new.live ≡ 0) × (views.new ≡ views.old) }
     ensures live { node.old.live ≡ 1 → (result ≡ 0) × (node.new.live ≡ 1) }
 {
@@ -141,7 +120,6 @@ pub extern "C" fn voumlis_proved_node_views(
 /// Lets a node go. Answers 0, or 2 where none is open.
 #[unsafe(no_mangle)]
 pub extern "C" fn voumlis_proved_node_close(alloc: Global, node: &mut Handle) -> u32
-    ensures held { held_by node.new ≡ None }
     ensures live { node.old.live ≡ 1 → result ≡ 0 }
     ensures dead { node.old.live ≢ 1 → result ≡ 2 }
     ensures left { node.new.live ≡ 0 }

@@ -6,12 +6,11 @@ ghost use Rattle.cli_settings.specs.declared.setting.Conduct.{Conduct as Conduct
 ghost use Rattle.cli_settings.specs.declared.fault.SettingsFault.{SettingsFault};
 ghost use Rattle.voter_rules.specs.declared.config.ForwardPolicy.{ForwardPolicy as Forwarding};
 ghost use Rattle.voter_rules.specs.declared.config.SkipPolicy.{SkipPolicy as Skipping};
-ghost use Rattle.cli_calls.specs.Told.{Names};
+ghost use Rattle.cli_hosted.specs.Statuses.{Names};
 ghost use Rattle.simplex_c.specs.Settings.{HasForm, IsUnfit, SaysCommittee, SaysConduct, SaysSeed, SaysSettings, SaysSkip, forward_number, truth_number, unfit_place, unfit_status};
 ghost use Rattle.simplex_c.specs.declared.settings.Unfit.TheVariants.{Fault};
 
-use cli_calls::Found;
-use cli_hosted::Status;
+use cli_hosted::{Found, Status};
 use cli_settings::{Committee, Conduct, Settings, SettingsFault, Turns};
 use std::alloc::{AllocError, Global};
 use types_core::{Epoch, Sha256Digest, ViewDelta};
