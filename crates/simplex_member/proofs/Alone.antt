@@ -48,25 +48,11 @@ use Rattle.simplex_member.proofs.Feeding.{Each, acts-each, each-append, opening-
 use Rattle.simplex_member.proofs.Grounding.{ground-on}
 use Rattle.simplex_member.proofs.Judgeable.{due-taken, says-on}
 use Rattle.simplex_member.proofs.Listed.{vote-entry}
-use Rattle.simplex_member.proofs.Lists.{Contains-map}
+use Rattle.simplex_member.proofs.Lists.{Contains-map, same-first, same-rest}
 use Rattle.simplex_member.proofs.Recordable.{matches}
 use Rattle.simplex_member.proofs.Telling.{apart}
 use Rattle.simplex_member.proofs.Sameness.{ground-by, same-turned}
 use Rattle.simplex_member.proofs.Walking.{cut_points, each-first, goes-part, life-goes, lived-among}
-
-same-first : {X : Type 0} (x y : X) (xs ys : List X) → x ∷ xs ≡ y ∷ ys → x ≡ y
-same-first {X} x y xs ys is = ap first is
-  where
-    first : List X → X
-    first [] = x
-    first (z ∷ zs) = z
-
-same-rest : {X : Type 0} (x y : X) (xs ys : List X) → x ∷ xs ≡ y ∷ ys → xs ≡ ys
-same-rest {X} x y xs ys is = ap rest is
-  where
-    rest : List X → List X
-    rest [] = []
-    rest (z ∷ zs) = zs
 
 some-there : {X : Type 0} (xs : List X) → 1 ≤ length xs → (x : X) × Contains xs x
 some-there [] long = absurd (omega (arith, long))

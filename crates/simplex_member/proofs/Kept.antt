@@ -55,7 +55,7 @@ filter-stood {X} test (y ∷ xs) x here = go (test y) here
         (Contains-cases y (filter test xs) x there)
     go false there = Contains-rest y xs x (filter-stood test xs x there)
 
-put-nothing : {X : Type 0} (xs : List X) (o : Option X) → put_behind xs o ≡ [] → xs ≡ []
+pub put-nothing : {X : Type 0} (xs : List X) (o : Option X) → put_behind xs o ≡ [] → xs ≡ []
 put-nothing [] o is = refl
 put-nothing (x ∷ xs) None is = is
 put-nothing {X} (x ∷ xs) (Some y) is = absurd (Contains-nil x (subst (λ (l : List X). Contains l x) is (Contains-head x (xs ++ y ∷ []))))

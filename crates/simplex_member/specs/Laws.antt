@@ -50,6 +50,7 @@ use Rattle.voter_rules.specs.GivingUp.{IsTracked}
 use Rattle.voter_laws.specs.Matching as voter
 use Rattle.voter_laws.specs.Matching.{IsOrderly, IsBound, round_of}
 use Rattle.voter_laws.specs.Placing.{AreOfTheirViews}
+use Rattle.voter_laws.specs.Recording.{EachRecordIsKnown}
 use Rattle.journal_single.specs.Record.{IsForeign, Reads}
 use Rattle.simplex_member.specs.declared.action.Reply.{Reply}
 use Rattle.simplex_member.specs.declared.event.Channel.{Channel}
@@ -113,6 +114,13 @@ pub record ListLaws {S D P G C : Type 0} (g : Ghosts S D P G C) : Type 0 where
       → IsLawful (g.attests own) (g.certifies own) owner kept × StandsForAll owner.term_length (entries ever) (entries kept)
   pub ever : (own : S) (owner : Owner) (all : List (Artifact S D P G C)) → IsEverLawful (g.attests own) (g.certifies own) owner all
       → VotesLawfully (g.attests own) (g.certifies own) owner all
+
+-- what the laws of lives take: those of records and of a member's lists, and that the voter knows just what its record says
+pub record LifeLaws {S D P G C : Type 0} (g : Ghosts S D P G C) : Type 0 where
+  pub records : RecordLaws g
+  pub lists : ListLaws g
+  pub matches : voter.EachHistoryMatches S D P G C
+  pub known : EachRecordIsKnown S D P G C
 
 -- no deadline that is counted from a moment is cut at the last one of 64 bits
 pub record AreUncut {S D C : Type 0} (s : Setup S D C) (now : ℕ) : Type 0 where
@@ -341,10 +349,10 @@ module _ {S D P G C : Type 0} (g : Ghosts S D P G C) (f : Formats S D P G C) (s 
   LivesLeaveLawful = (lives : List (Life S D P G C)) (all left : List (Artifact S D P G C)) → Lives g f s [] [] lives all left
       → IsLawful (g.attests s.voter.scheme) (g.certifies s.voter.scheme) (owner_of s) left
 
-  -- and each artifact of it can be read again
+  -- and each artifact that they ever recorded can be read again
   abbrev pub LivesLeaveReadable : Type 0
   LivesLeaveReadable = (lives : List (Life S D P G C)) (all left : List (Artifact S D P G C)) → Lives g f s [] [] lives all left
-      → (x : Artifact S D P G C) → Contains left x → IsRecordable f x
+      → (x : Artifact S D P G C) → Contains all x → IsRecordable f x
 
   -- so a disk that reads as what lives left holds no foreign entry, by what the disk takes for an artifact
   abbrev pub NeverForeign : (Artifact S D P G C → Type 0) → Type 0

@@ -20,7 +20,7 @@ use Rattle.simplex_member.specs.declared.refusal.Refusal.{Refusal}
 use Rattle.simplex_member.specs.Deeds.{Deed, Sends, Serves, all_deeds}
 use Rattle.simplex_member.specs.First.{IsFirst}
 use Rattle.simplex_member.specs.Member.{AppendsFloor, AreOpening, AreStep, Goes, IsRewritten, Rests, after}
-use Rattle.simplex_member.specs.Packet.{Formats, Packet, of_vote, of_certificate, of_ask, packet_channel}
+use Rattle.simplex_member.specs.Packet.{Formats, IsRecordable, Packet, of_vote, of_certificate, of_ask, packet_channel}
 use Rattle.simplex_member.specs.Point.{Point, Rewrote, History}
 use Rattle.simplex_member.specs.Recorded.{fresh_of, kept_of}
 use Rattle.simplex_member.specs.Refusals.{tests, refused_deeds}
@@ -102,10 +102,15 @@ module _ {S D P G C : Type 0} (g : Ghosts S D P G C) (f : Formats S D P G C) (s 
   handed_out (Lasting now points turns cut) = all_deeds g f s [] points ++ turn_deeds (after [] points) turns
 
 module _ {S D P G C : Type 0} (g : Ghosts S D P G C) (f : Formats S D P G C) where
-  -- what a life recorded of the floor that its opening brought, behind what that found: none of it, where the opening was cut off before
-  abbrev pub Founds : List (Artifact S D P G C) → Option (Finalization S D P G C) → List (Artifact S D P G C) → Course S D P G C → Type 0
-  Founds found brought founded (Broken now points) = (founded ≡ []) ⊎ AppendsFloor brought found founded
-  Founds found brought founded (Lasting now points turns cut) = AppendsFloor brought found founded
+  -- what an opening recorded of the floor that it brought, behind what it found: none of it, where it was cut off before
+  abbrev pub Appends : Course S D P G C → Option (Finalization S D P G C) → (found founded : List (Artifact S D P G C)) → Type 0
+  Appends (Broken now points) brought found founded = (founded ≡ []) ⊎ AppendsFloor brought found founded
+  Appends (Lasting now points turns cut) brought found founded = AppendsFloor brought found founded
+
+  -- so did that of a life, and it can be read again
+  pub record Founds (found : List (Artifact S D P G C)) (life : Life S D P G C) : Type 0 where
+    pub appends : Appends life.course life.brought found life.founded
+    pub readable : (x : Artifact S D P G C) → Contains life.founded x → IsRecordable f x
 
   -- lives of the member that this is a setup of, one after the other, from where it had ever recorded the first list, of which the second
   -- was kept: each is set up for it, and finds what the one before has left, which is what was kept at its end, also where that was cut off.
@@ -113,7 +118,7 @@ module _ {S D P G C : Type 0} (g : Ghosts S D P G C) (f : Formats S D P G C) whe
   abbrev pub Lives : Setup S D C → (ever found : List (Artifact S D P G C)) → List (Life S D P G C) → (all left : List (Artifact S D P G C)) → Type 0
   Lives s ever found [] all left = (all ≡ ever) × (left ≡ found)
   Lives s ever found (life ∷ lives) all left =
-      (end : History S D P G C) × Founds found life.brought life.founded life.course
+      (end : History S D P G C) × Founds found life
       × Lived g f life.setup (found ++ life.founded) life.course end
       × Lives s (ever ++ (life.founded ++ fresh_of end)) (kept_of life.setup.voter.length end) lives all left × IsOfOneMember s life.setup
 
