@@ -47,7 +47,7 @@ use Rattle.simplex_member.proofs.Telling.{apart, tells-record}
 
 module _ {D : Type 0} where
   -- the last finalized view lies behind the current one, and one that isn't the start was finalized
-  final-behind : (views : ℕ) (r : List (Entry D)) → last_finalized r < current_view views r
+  pub final-behind : (views : ℕ) (r : List (Entry D)) → last_finalized r < current_view views r
   final-behind views [] = omega arith
   final-behind views (recorded.voted s ∷ r) = let rest = final-behind views r in omega (arith, rest)
   final-behind views (recorded.taken (notarize p) ∷ r) = let rest = final-behind views r in omega (arith, rest)

@@ -1,6 +1,7 @@
 -- What a life found is of what was ever recorded, and each of its points was allowed.
-use Rattle.std.proofs.Common.{◌≡◌, ◌⊎◌, inl, inr, ⊎_elim, ℕ, Bool, List, [], ◌∷◌, ◌++◌, Option, Some, None, refl, sym, ◌∙◌, ap, subst, arith}
-use Rattle.std.specs.Prelude.{Contains}
+use Rattle.std.proofs.Common.{◌≡◌, ◌⊎◌, inl, inr, ⊎_elim, ℕ, Bool, List, [], ◌∷◌, ◌++◌, Option, Some, None, refl, sym, ◌∙◌, ap, subst, arith, append_assoc}
+use Rattle.std.specs.Prelude.{Contains, option_to_list}
+use Rattle.std.proofs.lemmas.List.{append-nil}
 use Rattle.std.proofs.lemmas.Option.{none-some}
 use Rattle.std.proofs.lemmas.List.Elements.{Contains-append_cases, Contains-append_left, Contains-append_right}
 use Rattle.types_quorum.specs.Counting.{Contains-cases, Contains-head, Contains-nil, Contains-rest}
@@ -17,7 +18,7 @@ use Rattle.simplex_member.specs.Setup.{Setup}
 use Rattle.simplex_member.proofs.Allowing.{begun-allowed, goes-allowed}
 use Rattle.simplex_member.proofs.Going.{goes-grow}
 use Rattle.simplex_member.proofs.Kept.{kept-within}
-use Rattle.simplex_member.proofs.Lists.{put-before, put-cases, put-here, some-is}
+use Rattle.simplex_member.proofs.Lists.{put-before, put-cases, put-here, put-list, some-is}
 use Rattle.simplex_member.proofs.Rereading.{life-found, life-readable}
 use Rattle.simplex_member.proofs.Three.{added-or-found}
 
@@ -66,7 +67,7 @@ module _ {S D P G C : Type 0} (g : Ghosts S D P G C) (f : Formats S D P G C) (s 
       inl (found.1, subst (λ (y : Artifact S D P G C). p ≡ Found y found.1) one found.2))
       (added-or-found p)
 
-  found-or-fresh : (h : History S D P G C) (x : Artifact S D P G C) → Contains (record_of h) x → ((taken : Bool) × Contains h (Found x taken)) ⊎ Contains (fresh_of h) x
+  pub found-or-fresh : (h : History S D P G C) (x : Artifact S D P G C) → Contains (record_of h) x → ((taken : Bool) × Contains h (Found x taken)) ⊎ Contains (fresh_of h) x
   found-or-fresh [] x here = absurd (Contains-nil x here)
   found-or-fresh (p ∷ h) x here = ⊎_elim
       (λ before. ⊎_elim
@@ -78,6 +79,18 @@ module _ {S D P G C : Type 0} (g : Ghosts S D P G C) (f : Formats S D P G C) (s 
       (λ added. inr (put-here (fresh_of h) (added_by p) x added))
       (point-of p x now))
       (put-cases (record_of h) (recorded_by p) x here)
+
+  -- on the way more is new, and what happened stays
+  pub goes-fresh : (h : History S D P G C) (points : List (Point S D P G C)) (end : History S D P G C) → Goes g f s h points end → (more : List (Artifact S D P G C)) × (fresh_of end ≡ fresh_of h ++ more)
+  goes-fresh h [] end goes = ([], ap fresh_of goes ∙ sym (append-nil (fresh_of h)))
+  goes-fresh h (p ∷ points) end goes =
+      let later = goes-fresh (p ∷ h) points end goes.1 in
+      let now = option_to_list (added_by p) in
+      (now ++ later.0, later.1 ∙ (ap (λ (l : List (Artifact S D P G C)). l ++ later.0) (put-list (fresh_of h) (added_by p)) ∙ append_assoc (fresh_of h) now later.0))
+
+  pub goes-there : (h : History S D P G C) (points : List (Point S D P G C)) (end : History S D P G C) → Goes g f s h points end → (p : Point S D P G C) → Contains h p → Contains end p
+  goes-there h [] end goes p here = subst (λ (k : History S D P G C). Contains k p) (sym goes) here
+  goes-there h (q ∷ points) end goes p here = goes-there (q ∷ h) points end goes.1 p (Contains-rest q h p here)
 
   -- at the end of a life all that was recorded was found by its opening, or is new
   pub life-known : (found : List (Artifact S D P G C)) (life : Course S D P G C) (end : History S D P G C) → Lived g f s found life end → (x : Artifact S D P G C) → Contains (record_of end) x
@@ -92,7 +105,7 @@ added-recorded : {S D P G C : Type 0} (p : Point S D P G C) (x : Artifact S D P 
 added-recorded (Found y taken) x is = absurd (none-some x is)
 added-recorded p x is = is
 
-fresh-recorded : {S D P G C : Type 0} (s : Setup S D C) (h : History S D P G C) (x : Artifact S D P G C) → Contains (fresh_of h) x → Contains (record_of h) x
+pub fresh-recorded : {S D P G C : Type 0} (s : Setup S D C) (h : History S D P G C) (x : Artifact S D P G C) → Contains (fresh_of h) x → Contains (record_of h) x
 fresh-recorded s [] x here = here
 fresh-recorded s (p ∷ h) x here = ⊎_elim
     (λ before. put-before (record_of h) (recorded_by p) x (fresh-recorded s h x before))

@@ -9,13 +9,13 @@ use Rattle.types_core.specs.declared.scheme.Scheme.{Ghosts}
 use Rattle.messages_certificates.specs.declared.artifact.Artifact.{Artifact}
 use Rattle.messages_certificates.specs.declared.artifact.Artifact.TheVariants as artifact
 use Rattle.messages_certificates.specs.ProposalCertificate.{Finalization}
-use Rattle.simplex_record.specs.Record.{Entry, entries, entry, finalizes, floor, greatest, last_finalized}
+use Rattle.simplex_record.specs.Record.{Entry, current_view, entries, entry, finalizes, floor, last_finalized}
 use Rattle.simplex_record.specs.Rules.{reach}
 use Rattle.simplex_record.specs.Lawful.{rewritten}
 use Rattle.voter_history.specs.History as views
 use Rattle.voter_laws.specs.Matching.{EachHistoryMatches}
 use Rattle.simplex_member.specs.Allowed.{Allowed, AreAllowed, MayRewrite}
-use Rattle.simplex_member.specs.Floors.{TellsAll}
+use Rattle.simplex_member.specs.Floors.{IsRewriteOf, TellsAll}
 use Rattle.simplex_member.specs.Layers.{finalized_of, known_of, latest, voter_of, voter_points}
 use Rattle.simplex_member.specs.Packet.{Formats}
 use Rattle.simplex_member.specs.Point.{Point, Rewrote, History}
@@ -82,6 +82,16 @@ module _ {S D P G C : Type 0} where
       (λ is. omega (arith, ap (λ (z : Artifact S D P G C). finalizes (entry z)) is))
       (λ later. let rest = finalized-ge xs x later in omega (arith, rest))
       (Contains-cases y xs x here)
+
+  final-last : (xs : List (Artifact S D P G C)) (x : Artifact S D P G C) → last_finalized (entries (xs ++ x ∷ [])) ≡ max (last_finalized (entries xs)) (finalizes (entry x))
+  final-last [] x = omega arith
+  final-last (y ∷ xs) x = let rest = final-last xs x in omega (arith, rest)
+
+  -- what is put behind both keeps the one below the other
+  final-put : (xs ys : List (Artifact S D P G C)) (o : Option (Artifact S D P G C)) → last_finalized (entries xs) ≤ last_finalized (entries ys)
+      → last_finalized (entries (put_behind xs o)) ≤ last_finalized (entries (put_behind ys o))
+  final-put xs ys None low = low
+  final-put xs ys (Some x) low = let one = final-last xs x in let two = final-last ys x in omega (arith, low, one, two)
 
   -- what is put behind some artifacts changes no floor
   pub floor-put : (xs : List (Artifact S D P G C)) (o : Option (Artifact S D P G C)) → (xs ≡ [] → ⊥) → floor (entries (put_behind xs o)) ≡ floor (entries xs)
@@ -205,6 +215,20 @@ module _ {S D P G C : Type 0} (g : Ghosts S D P G C) (f : Formats S D P G C) (s 
       (λ puts. puts s.voter.length (kept h) ∙ ap (λ (l : List (Artifact S D P G C)). put_behind l (recorded_by p)) (all-kept h all.1 never))
       (ways-of p)
 
+  -- what is kept is of no lower last finalized view
+  pub kept-last : (h : History S D P G C) → AreAllowed g f s h → last_finalized (entries (record_of h)) ≤ last_finalized (entries (kept h))
+  kept-last [] all = omega arith
+  kept-last (p ∷ h) all = ⊎_elim
+      (λ rewrote.
+      let last = next-is-last (kept h) rewrote.0 (may-rewrite p h rewrote.0 rewrote.1 all.0).next in
+      let was = kept-last h all.1 in
+      let none : put_behind (record_of h) (recorded_by p) ≡ record_of h = ap (λ (q : Point S D P G C). put_behind (record_of h) (recorded_by q)) rewrote.1 in
+      let most = finalized-ge (kept (p ∷ h)) (artifact.Finalization rewrote.0) (subst (λ (l : List (Artifact S D P G C)). Contains l (artifact.Finalization rewrote.0)) (sym (rewrote-kept p h rewrote.0 rewrote.1)) (Contains-head (artifact.Finalization rewrote.0) _)) in
+      subst (λ (l : List (Artifact S D P G C)). last_finalized (entries l) ≤ last_finalized (entries (kept (p ∷ h)))) (sym none) (omega (arith, was, last.1, most)))
+      (λ puts. subst (λ (l : List (Artifact S D P G C)). last_finalized (entries (record_of (p ∷ h))) ≤ last_finalized (entries l)) (sym (puts s.voter.length (kept h)))
+      (final-put (record_of h) (kept h) (recorded_by p) (kept-last h all.1)))
+      (ways-of p)
+
   module _ (law : EachHistoryMatches S D P G C) where
     -- no recorded finalization is of a view above the last finalized one
     recorded-final : (h : History S D P G C) → AreAllowed g f s h → (x : Artifact S D P G C) → Contains (record_of h) x → finalizes (entry x) ≤ finalized_of s h
@@ -275,3 +299,23 @@ module _ {S D P G C : Type 0} (g : Ghosts S D P G C) (f : Formats S D P G C) (s 
             let was = kept-floor h all.1 in
             let same = floor-put (kept h) (recorded_by p) (λ none. Contains-nil x (subst (λ (l : List (Artifact S D P G C)). Contains l x) (sym some ∙ none) (Contains-head x xs))) in
             omega (arith, rises, was, same)
+
+  -- ---- what a rewrite does
+
+  pub rewrite-is : ((views : ℕ) (r : List (Artifact S D P G C)) (c : Finalization S D P G C) → c.proposal.round.view ≡ last_finalized (entries r)
+      → (last_finalized (entries (rewritten views c r)) ≡ last_finalized (entries r)) × (current_view views (entries (rewritten views c r)) ≡ current_view views (entries r)))
+      → (h : History S D P G C) (c : Finalization S D P G C) → Allowed g f s h (Rewrote c) → IsRewriteOf g f s h c
+  rewrite-is same h c a =
+      let last = next-is-last (kept h) c a.due.next in
+      let views_same = same s.voter.length (kept h) c last.1 in
+      record {
+        was_kept = last.0;
+        kept = refl;
+        begins = refl;
+        final = views_same.0;
+        entered = views_same.1;
+        current = refl;
+        finalized = refl;
+        record_is = refl;
+        silent = refl;
+      }
