@@ -268,10 +268,12 @@ module _ {S D P G C : Type 0} (g : Ghosts S D P G C) (f : Formats S D P G C) (s 
     records-alone ever h is (Judged r false) a own = (tt, tt)
     records-alone ever h is (Constructs view kind batch) a own = made-may ever h is.allowed view kind batch a batch.certificate refl
     records-alone ever [] is (Votes (vote.Notarize v)) a own = absurd (apart is.begun)
-    records-alone ever (q ∷ h) is (Votes (vote.Notarize v)) a own =
-        (votes-more s.voter.length (scheduled_leader s.voter) s.me (entries (record_of (q ∷ h))) (entries (ever ++ fresh_of (q ∷ h))) (all-known ever (q ∷ h) is) v.proposal
-        (notarize_law (member_of s) (known_of s (q ∷ h)) (entries (record_of (q ∷ h))) v.proposal.round.view s.me v.proposal mine (matches g f s law q h is.allowed)
-        (due-bound g f s laws (q ∷ h) is.allowed v.proposal.round.view v.proposal a.due.0 a.due.1) a.due.0), tt)
+    records-alone ever (q ∷ h) is (Votes (vote.Notarize v)) a own = (
+      votes-more s.voter.length (scheduled_leader s.voter) s.me (entries (record_of (q ∷ h))) (entries (ever ++ fresh_of (q ∷ h))) (all-known ever (q ∷ h) is) v.proposal
+          (notarize_law (member_of s) (known_of s (q ∷ h)) (entries (record_of (q ∷ h))) v.proposal.round.view s.me v.proposal mine (matches g f s law q h is.allowed)
+          (due-bound g f s laws (q ∷ h) is.allowed v.proposal.round.view v.proposal a.due.0 a.due.1) a.due.0),
+      tt,
+    )
     records-alone ever h is (Votes (vote.Nullify v)) a own = (tt, tt)
     records-alone ever h is (Votes (vote.Finalize v)) a own = (tt, tt)
     records-alone ever h is p a own = tt
@@ -581,7 +583,9 @@ module _ {S D P G C : Type 0} (g : Ghosts S D P G C) (f : Formats S D P G C) (s 
       let at = ever-at g f s all life w before behind split h is in
       let alone = subst (λ (k : History S D P G C). IsAlone g f life.setup (w.ever ++ life.founded) k) (sym is)
       (part-of life.setup w.own w.ever w.found life.founded life.course w.end (appends-one g f life.course life.brought w.found life.founded w.founds.appends) w.lived was.1 before behind split
-      (subst (λ (k : History S D P G C). is_begun k ≡ true) is begun)) in
-      (w.ever ++ (life.founded ++ fresh_of h), at,
-      subst (λ (l : List (Artifact S D P G C)). IfSome (recorded_by p) (λ x. MayFollowOnGround 1 s.voter.length (scheduled_leader s.voter) s.me (entries l) (entry x))) (append_assoc w.ever life.founded (fresh_of h))
-      (stands-next life.setup w.own (w.ever ++ life.founded) h alone p a))
+      (subst (λ (k : History S D P G C). is_begun k ≡ true) is begun)) in (
+        w.ever ++ (life.founded ++ fresh_of h),
+        at,
+        subst (λ (l : List (Artifact S D P G C)). IfSome (recorded_by p) (λ x. MayFollowOnGround 1 s.voter.length (scheduled_leader s.voter) s.me (entries l) (entry x))) (append_assoc w.ever life.founded (fresh_of h))
+            (stands-next life.setup w.own (w.ever ++ life.founded) h alone p a),
+      )

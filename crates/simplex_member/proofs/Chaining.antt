@@ -152,7 +152,7 @@ module _ {S D P G C : Type 0} (g : Ghosts S D P G C) (f : Formats S D P G C) (s 
     read-ground ever h (x ∷ xs) (Found y taken ∷ read) acts end are goes all none part is =
         read-ground ever (Found y taken ∷ h) xs read acts end are.1 goes.1 (goes.0, all) none
         (λ z here. part z (subst (λ (l : List (Artifact S D P G C)). Contains l z) (append_assoc (record_of h) (x ∷ []) xs)
-            (subst (λ (w : Artifact S D P G C). Contains ((record_of h ++ w ∷ []) ++ xs) z) are.0 here)))
+        (subst (λ (w : Artifact S D P G C). Contains ((record_of h ++ w ∷ []) ++ xs) z) are.0 here)))
         is
     read-ground ever h [] (p ∷ read) acts end never goes all none part is = absurd never
     read-ground ever h (x ∷ xs) [] acts end never goes all none part is = absurd never
@@ -191,7 +191,7 @@ module _ {S D P G C : Type 0} (g : Ghosts S D P G C) (f : Formats S D P G C) (s 
       let by : t.voter.me ≡ Some t.me = same.voter_me ∙ (mine ∙ ap (λ (n : ℕ). Some n) (sym same.me)) in
       let ever_on : Ground g f t ever = ground-by g t s (same-turned g s t same) (λ n views leader i. StandsOnGround n views leader i (entries ever)) is in
       let within : (x : Artifact S D P G C) → Contains (found ++ life.founded) x → Contains (ever ++ life.founded) x = λ x here. ⊎_elim
-          (λ before. Contains-append_left ever life.founded x (part x before)) (λ floor. Contains-append_right ever life.founded x floor) (Contains-append_cases found life.founded x here) in
+      (λ before. Contains-append_left ever life.founded x (part x before)) (λ floor. Contains-append_right ever life.founded x floor) (Contains-append_cases found life.founded x here) in
       let left = (life-ground g f t law verdict notarize_law grows others laws by (ever ++ life.founded) (found ++ life.founded) life.course end lived within (founded-ground g f t grows ever life.founded which ever_on)).ground in
       subst (Ground g f s) (append_assoc ever life.founded (fresh_of end))
       (ground-by g s t same (λ n views leader i. StandsOnGround n views leader i (entries ((ever ++ life.founded) ++ fresh_of end))) left)

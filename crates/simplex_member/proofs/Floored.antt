@@ -203,16 +203,16 @@ module _ {S D P G C : Type 0} (g : Ghosts S D P G C) (f : Formats S D P G C) (s 
       (λ before. inr (omega (arith, before.next)))
       (λ other. ⊎_elim
       (λ last. above-final q h all view parent last.covered (λ some. ⊎_elim
-          (λ less.
-          let m = matches g f s law q h all in
-          let behind = final-behind s.voter.length (entries (record_of (q ∷ h))) in
-          let same = m.last_finalized in
-          let now = m.current in
-          let there = final-explicit q h all (omega (arith, less)) in
-          let from = due.opens.from in
-          absurd (apart (sym (ap (λ (o : Option D). is_some o) (last.highest (views.last_finalized (voter_of s (q ∷ h))) less (omega (arith, behind, same, now, from)))) ∙ there)))
-          (λ most. most)
-          (cases_lt parent (views.last_finalized (voter_of s (q ∷ h))))))
+      (λ less.
+      let m = matches g f s law q h all in
+      let behind = final-behind s.voter.length (entries (record_of (q ∷ h))) in
+      let same = m.last_finalized in
+      let now = m.current in
+      let there = final-explicit q h all (omega (arith, less)) in
+      let from = due.opens.from in
+      absurd (apart (sym (ap (λ (o : Option D). is_some o) (last.highest (views.last_finalized (voter_of s (q ∷ h))) less (omega (arith, behind, same, now, from)))) ∙ there)))
+      (λ most. most)
+      (cases_lt parent (views.last_finalized (voter_of s (q ∷ h))))))
       (λ over. inr (omega (arith, over.next)))
       other)
       due.preferred
@@ -236,9 +236,11 @@ module _ {S D P G C : Type 0} (g : Ghosts S D P G C) (f : Formats S D P G C) (s 
 
   verify-step : (h : History S D P G C) (n : ℕ) (context : Context D P) (p : Proposal D) (view : ℕ) → floor_of s (AsksVerify n context p ∷ h) ≤ view → Allowed g f s h (AsksVerify n context p) → AreAllowed g f s h → LowAt h view → LowAt (AsksVerify n context p ∷ h) view
   verify-step [] n context p view kept a all i = absurd (apart a.order)
-  verify-step (q ∷ h) n context p view kept a all i = stays (AsksVerify n context p) (q ∷ h) view kept (λ k b e. e)
-      ((λ at. low-on (AsksVerify n context p) (q ∷ h) view p.parent
-      (subst (λ (u : ℕ). Low (q ∷ h) u p.parent) at (verified-low q h all context.round.view p.parent a.due.due.parent.span))), tt) i
+  verify-step (q ∷ h) n context p view kept a all i = stays (AsksVerify n context p) (q ∷ h) view kept (λ k b e. e) (
+    (λ at. low-on (AsksVerify n context p) (q ∷ h) view p.parent
+        (subst (λ (u : ℕ). Low (q ∷ h) u p.parent) at (verified-low q h all context.round.view p.parent a.due.due.parent.span))),
+    tt,
+  ) i
 
   build-step : (h : History S D P G C) (n : ℕ) (handoff : Bool) (context : Context D P) (view : ℕ) → floor_of s (AsksBuild n handoff context ∷ h) ≤ view → Allowed g f s h (AsksBuild n handoff context) → AreAllowed g f s h → LowAt h view → LowAt (AsksBuild n handoff context ∷ h) view
   build-step [] n handoff context view kept a all i = absurd (apart a.order)

@@ -228,9 +228,9 @@ module _ {S D P G C : Type 0} (g : Ghosts S D P G C) (f : Formats S D P G C) (sc
         (λ x there. whole x (lives-keep g f (m.setup i) ever_then kept_then lives all left led.3 x (ended-part g f (m.setup i) ever found life end led.2 part x there))) in
         lives-honest ever_then kept_then lives all left led.3
         (λ x d there is. ⊎_elim
-            (λ old. honest x d old is)
-            (λ new. ⊎_elim (λ at. floor x d at is) (λ fresh. ended x d (fresh-recorded s end x fresh) is) (Contains-append_cases life.founded (fresh_of end) x new))
-            (Contains-append_cases ever (life.founded ++ fresh_of end) x there))
+        (λ old. honest x d old is)
+        (λ new. ⊎_elim (λ at. floor x d at is) (λ fresh. ended x d (fresh-recorded s end x fresh) is) (Contains-append_cases life.founded (fresh_of end) x new))
+        (Contains-append_cases ever (life.founded ++ fresh_of end) x there))
         (kept-part g f (m.setup i) ever found life end led.2 part) (λ l there. among l (Contains-rest life lives l there)) whole
 
   pub recorded-honest : RoundLaws g f.same → LiveByNodes g f scheme m world → RecordedAreHonest g f scheme m world

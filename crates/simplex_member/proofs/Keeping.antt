@@ -167,9 +167,9 @@ module _ {S D P G C : Type 0} (g : Ghosts S D P G C) (f : Formats S D P G C) (s 
       let readable = life-readable g f t (found ++ life.founded) life.course end led.2 whole in
       ever-readable (ever ++ (life.founded ++ fresh_of end)) (kept_of t.voter.length end) lives all left led.3
       (λ x here. ⊎_elim
-          (λ before. every x before)
-          (λ new. ⊎_elim (λ floor. led.1.readable x floor) (λ fresh. readable x (fresh-recorded t end x fresh)) (Contains-append_cases life.founded (fresh_of end) x new))
-          (Contains-append_cases ever (life.founded ++ fresh_of end) x here))
+      (λ before. every x before)
+      (λ new. ⊎_elim (λ floor. led.1.readable x floor) (λ fresh. readable x (fresh-recorded t end x fresh)) (Contains-append_cases life.founded (fresh_of end) x new))
+      (Contains-append_cases ever (life.founded ++ fresh_of end) x here))
       (λ x here. readable x (kept-within g f t end (life-allowed g f t (found ++ life.founded) life.course end led.2) x here))
 
   pub all-readable : (lives : List (Life S D P G C)) (all left : List (Artifact S D P G C)) → Lives g f s [] [] lives all left → CanBeRead all

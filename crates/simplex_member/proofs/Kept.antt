@@ -110,9 +110,10 @@ module _ {S D P G C : Type 0} where
           → (finalization_in xs view ≡ Some c → Contains xs (artifact.Finalization c) × (c.proposal.round.view ≡ view))
           → Contains (artifact.Finalization d ∷ xs) (artifact.Finalization c) × (c.proposal.round.view ≡ view)
       go true same found later =
-          let one : d ≡ c = some-is d c found in
-          (subst (λ (x : Finalization S D P G C). Contains (artifact.Finalization d ∷ xs) (artifact.Finalization x)) one (Contains-head (artifact.Finalization d) xs),
-          ap (λ (x : Finalization S D P G C). x.proposal.round.view) (sym one) ∙ same refl)
+          let one : d ≡ c = some-is d c found in (
+            subst (λ (x : Finalization S D P G C). Contains (artifact.Finalization d ∷ xs) (artifact.Finalization x)) one (Contains-head (artifact.Finalization d) xs),
+            ap (λ (x : Finalization S D P G C). x.proposal.round.view) (sym one) ∙ same refl,
+          )
       go false same found later = let more = later found in (Contains-rest (artifact.Finalization d) xs (artifact.Finalization c) more.0, more.1)
   in-record (x ∷ xs) view c is = let more = in-record xs view c is in (Contains-rest x xs (artifact.Finalization c) more.0, more.1)
 
@@ -185,9 +186,9 @@ module _ {S D P G C : Type 0} (g : Ghosts S D P G C) (f : Formats S D P G C) (s 
       (λ rewrote.
       let last = next-is-last (kept h) rewrote.0 (may-rewrite p h rewrote.0 rewrote.1 all.0).next in
       put-before (record_of h) (recorded_by p) x (kept-within h all.1 x (⊎_elim
-          (λ is. subst (λ (y : Artifact S D P G C). Contains (kept h) y) (sym is) last.0)
-          (λ there. there)
-          (left-cases s.voter.length rewrote.0 (kept h) x (subst (λ (l : List (Artifact S D P G C)). Contains l x) (rewrote-kept p h rewrote.0 rewrote.1) here)))))
+      (λ is. subst (λ (y : Artifact S D P G C). Contains (kept h) y) (sym is) last.0)
+      (λ there. there)
+      (left-cases s.voter.length rewrote.0 (kept h) x (subst (λ (l : List (Artifact S D P G C)). Contains l x) (rewrote-kept p h rewrote.0 rewrote.1) here)))))
       (λ puts. ⊎_elim
       (λ before. put-before (record_of h) (recorded_by p) x (kept-within h all.1 x before))
       (λ now. put-here (record_of h) (recorded_by p) x now)

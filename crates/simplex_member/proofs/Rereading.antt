@@ -137,9 +137,9 @@ module _ {S D P G C : Type 0} (g : Ghosts S D P G C) (f : Formats S D P G C) (s 
   goes-found R h (p ∷ points) end goes found before =
       goes-found R (p ∷ h) points end goes.1 (λ x taken here. found x taken (Contains-rest p points (Found x taken) here))
       (λ x taken here. ⊎_elim
-          (λ is. found x taken (subst (λ (q : Point S D P G C). Contains (p ∷ points) q) is (Contains-head p points)))
-          (λ later. before x taken later)
-          (Contains-cases p h (Found x taken) here))
+      (λ is. found x taken (subst (λ (q : Point S D P G C). Contains (p ∷ points) q) is (Contains-head p points)))
+      (λ later. before x taken later)
+      (Contains-cases p h (Found x taken) here))
 
   turns-found : (R : Artifact S D P G C → Type 0) (h : History S D P G C) (turns : List (Turn S D P G C)) (end : History S D P G C) → Turns g f s h turns end → EachFound R h → EachFound R end
   turns-found R h [] end is before = subst (λ (e : History S D P G C). EachFound R e) (sym is) before

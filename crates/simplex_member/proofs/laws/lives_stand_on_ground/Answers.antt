@@ -39,10 +39,12 @@ returns g c = record {
       (λ e.
       let one = eqb-true size 1 e in
       let next = next-stands g.S.Scheme f s c.what_is_known_is_recorded.ensures c.a_lone_member_stands_on_ground.ensures.notarize c.a_lone_member_stands_on_ground.ensures.verdict (c.rounds_obey.ensures f exact) lived.me one (omega (arith, lived.member, one))
-      (λ y certificate certifies. g.met.S.Listing.backed s.voter.scheme y certificate certifies) all lived.left (m.lives i) lived.lives life at.among at.before at.behind at.split h at.is begun p a in
-      (next.0, next.1,
-      subst (λ (n : ℕ). MayFollowOnGround n s.voter.length (scheduled_leader s.voter) s.me (entries next.0) (entry x)) (sym one)
-      (if-some (λ y. MayFollowOnGround 1 s.voter.length (scheduled_leader s.voter) s.me (entries next.0) (entry y)) (recorded_by p) x next.2 is)))
+      (λ y certificate certifies. g.met.S.Listing.backed s.voter.scheme y certificate certifies) all lived.left (m.lives i) lived.lives life at.among at.before at.behind at.split h at.is begun p a in (
+        next.0,
+        next.1,
+        subst (λ (n : ℕ). MayFollowOnGround n s.voter.length (scheduled_leader s.voter) s.me (entries next.0) (entry x)) (sym one)
+            (if-some (λ y. MayFollowOnGround 1 s.voter.length (scheduled_leader s.voter) s.me (entries next.0) (entry y)) (recorded_by p) x next.2 is),
+      ))
       (λ more.
       let t = life.setup in
       let w = lived-among g.S.Scheme f s (m.lives i) all lived.left life lived.lives at.among in
