@@ -1,6 +1,6 @@
 -- The committee of one is a network, and both its views are final.
-use Rattle.std.proofs.Common.{◌≡◌, inl, inr, ⊎_elim, ℕ, ◌<◌, true, false, List, [], ◌∷◌, ◌++◌, Some, None, refl, sym, ap, subst, arith}
-use Rattle.std.specs.Prelude.{◌+◌, Contains, map, ⊤}
+use Rattle.std.proofs.Common.{◌≡◌, inl, inr, ⊎_elim, ℕ, ◌<◌, true, false, List, [], ◌∷◌, ◌++◌, Some, None, refl, sym, ◌∙◌, ap, subst, arith}
+use Rattle.std.specs.Prelude.{◌+◌, Contains, map, option_map, ⊤}
 use Rattle.std.proofs.lemmas.Bool.{cases_lt}
 use Rattle.std.proofs.lemmas.List.Elements.{All-contains, Contains-append_left, Contains-append_right}
 use Rattle.types_quorum.specs.Counting.{Contains-cases, Contains-nil}
@@ -21,6 +21,9 @@ use Rattle.simplex_network.specs.Network.{IsSeen, WasMade}
 use Rattle.network_example.specs.Finalized.{CanBeKept, IsFinalizing, IsLone, Lone, agreeing, alone, context_behind, finalization_behind, finalize_behind, finalizing, lone_life, lone_member, made, notarization_behind, notarize_behind, proposal_behind, recorded_behind, round_of, two_views, world_of_one}
 use Rattle.network_example.proofs.Finalized.{awaited-first, awaited-second, ended, goes-agreed-first, goes-agreed-second, goes-finalized-first, goes-finalized-second, goes-open, h1, h2, h3, h4, h5, none-fifth, none-first, none-fourth, none-second, none-some, none-third, unjudged-first, unjudged-second}
 use Rattle.network_example.proofs.Rules.{Each, each}
+
+some-is : {X : Type 0} (x y : X) → Some x ≡ Some y → x ≡ y
+some-is x y e = cc e
 
 -- nothing that came is a packet
 abbrev NoPacket : {D : Type 0} → Event D → Type 0
@@ -119,10 +122,10 @@ module _ {S D P G C : Type 0} (g : Ghosts S D P G C) (f : Formats S D P G C) (x 
   )
 
   same : IsOfOneMember {C = C} (alone x.own (x.payload 0)) (alone x.own (x.payload 0))
-  same = record { scheme = refl; me = refl; voter_me = refl; epoch = refl; length = refl; genesis = refl; mode = refl; elect = λ view c. refl }
+  same = record { scheme = refl; me = refl; voter_me = refl; epoch = refl; length = refl; genesis = λ payload more first second. some-is more payload (sym second ∙ first); mode = refl; elect = λ view c. refl }
 
-  lives : Lives g f (alone x.own (x.payload 0)) [] (lone_life g x ∷ []) (recorded_behind g x 0 (recorded_behind g x 1 []))
-  lives = (fifth, lived, refl, same)
+  lives : Lives g f (alone x.own (x.payload 0)) [] [] (lone_life g x ∷ []) (recorded_behind g x 0 (recorded_behind g x 1 [])) (recorded_behind g x 0 (recorded_behind g x 1 []))
+  lives = (fifth, record { appends = refl; readable = λ y here. absurd (Contains-nil y here) }, lived, (refl, refl), same)
 
   -- ---- what came
 
@@ -249,8 +252,12 @@ module _ {S D P G C : Type 0} (g : Ghosts S D P G C) (f : Formats S D P G C) (x 
       alike = λ i member. lone.alike;
       owner = λ i member. subst (λ (k : ℕ). owner_of (m.setup i) ≡ record { epoch = w.epoch; term_length = w.term_length; signer = k }) (sym (is-one i member)) refl;
       me = λ i member. ap (λ (k : ℕ). Some k) (sym (is-one i member));
-      lived = λ i member. lives;
+      lived = λ i member. (recorded_behind g x 0 (recorded_behind g x 1 []), lives);
       honest = λ i sender member y came. absurd (holds-nothing came.0 sender y (no-packets i came.0 came.1) came.2);
+      floors = λ i member c brought. absurd (⊎_elim
+          (λ is. none-some c (ap (λ (l : Life S D P G C). option_map certificate.Finalization l.brought) is ∙ brought.2))
+          (λ none. Contains-nil brought.0 none)
+          (Contains-cases (lone_life g x) [] brought.0 brought.1));
     };
     few = record { some = omega arith; few = omega arith };
     elector = record { leader = λ view. None; one = λ i member view. refl };

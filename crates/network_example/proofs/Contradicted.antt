@@ -1,6 +1,6 @@
 -- The example of contradictory certificates: the member's lives, and what it reported.
 use Rattle.std.proofs.Common.{◌≡◌, ◌⊎◌, inl, inr, ⊎_elim, ℕ, ◌<◌, ◌≤◌, ◌+◌, ◌^◌, ◌==◌, Bool, true, false, List, [], ◌∷◌, ◌++◌, Option, Some, None, refl, sym, ◌∙◌, ap, subst, arith}
-use Rattle.std.specs.Prelude.{All, Contains, if◌then◌else◌, nat_lt, unwrap_or, ⊤}
+use Rattle.std.specs.Prelude.{All, Contains, if◌then◌else◌, nat_lt, option_map, unwrap_or, ⊤}
 use Rattle.std.specs.declared.cmp.Ordering.{Ordering}
 use Rattle.std.proofs.lemmas.Bool.{both_ways, cases_lt, eqb-true}
 use Rattle.std.proofs.lemmas.List.Elements.{All-cons, All-contains, All-nil}
@@ -416,10 +416,10 @@ module _ {S D P G C : Type 0} (g : Ghosts S D P G C) (f : Formats S D P G C) (x 
   -- ---- its lives
 
   same : IsOfOneMember before s
-  same = record { scheme = refl; me = refl; voter_me = refl; epoch = refl; length = refl; genesis = refl; mode = refl; elect = λ view c. refl }
+  same = record { scheme = refl; me = refl; voter_me = refl; epoch = refl; length = refl; genesis = λ payload more first second. some-is more payload (sym second ∙ first); mode = refl; elect = λ view c. refl }
 
   same-before : IsOfOneMember before before
-  same-before = record { scheme = refl; me = refl; voter_me = refl; epoch = refl; length = refl; genesis = refl; mode = refl; elect = λ view c. refl }
+  same-before = record { scheme = refl; me = refl; voter_me = refl; epoch = refl; length = refl; genesis = λ payload more first second. some-is more payload (sym second ∙ first); mode = refl; elect = λ view c. refl }
 
   module _ (final : IsHandedBy g f x.final_packet z) (null : IsHandedBy g f x.null_packet n) where
     lived-first : Lived g f before [] (cut_course x) (Began ∷ Opened 0 ∷ [])
@@ -450,8 +450,14 @@ module _ {S D P G C : Type 0} (g : Ghosts S D P G C) (f : Formats S D P G C) (x 
       refl,
     )
 
-    pub both-lived : Lives g f before [] ((one_member x).lives 0) (artifact.Finalization (finalization x) ∷ artifact.Nullification (nullification x) ∷ [])
-    both-lived = (Began ∷ Opened 0 ∷ [], lived-first, (h4, lived-second, refl, same), same-before)
+    pub both-lived : Lives g f before [] [] ((one_member x).lives 0) (artifact.Finalization (finalization x) ∷ artifact.Nullification (nullification x) ∷ []) (artifact.Finalization (finalization x) ∷ artifact.Nullification (nullification x) ∷ [])
+    both-lived = (
+      Began ∷ Opened 0 ∷ [],
+      record { appends = inl refl; readable = λ y here. absurd (Contains-nil y here) },
+      lived-first,
+      (h4, record { appends = refl; readable = λ y here. absurd (Contains-nil y here) }, lived-second, (refl, refl), same),
+      same-before,
+    )
 
 -- ---- the world of it
 
@@ -464,10 +470,10 @@ module _ {S D P G C : Type 0} (g : Ghosts S D P G C) (f : Formats S D P G C) (cm
   w = one_of_four x
 
   abbrev last_life : Life S D P G C
-  last_life = record { setup = timed x.own x.genesis 0 1500; course = taking_course x }
+  last_life = record { setup = timed x.own x.genesis 0 1500; brought = None; founded = []; course = taking_course x }
 
   abbrev first_life : Life S D P G C
-  first_life = record { setup = timed x.own x.genesis 0 1000; course = cut_course x }
+  first_life = record { setup = timed x.own x.genesis 0 1000; brought = None; founded = []; course = cut_course x }
 
   -- only the first member is correct
   is-first : (i : ℕ) → IsCorrect w i → i ≡ 0
@@ -526,8 +532,18 @@ module _ {S D P G C : Type 0} (g : Ghosts S D P G C) (f : Formats S D P G C) (cm
     alike = λ i signs. keys.alike;
     owner = λ i signs. refl;
     me = λ i signs. refl;
-    lived = λ i signs. subst (λ (k : ℕ). Lives g f (m.setup k) [] (m.lives k) (w.recorded k)) (sym (is-first i signs)) (both-lived g f x keys.alike.size_is keys.finalized keys.nullified final null);
+    lived = λ i signs. (
+      w.recorded 0,
+      subst (λ (k : ℕ). Lives g f (m.setup k) [] [] (m.lives k) (w.recorded k) (w.recorded 0)) (sym (is-first i signs)) (both-lived g f x keys.alike.size_is keys.finalized keys.nullified final null),
+    );
     honest = λ i sender signs y came. each-honest i signs came.1.0 came.1.1 came.0 came.1.2 sender y came.2;
+    floors = λ i signs c brought. absurd (⊎_elim
+        (λ is. none-some c (ap (λ (l : Life S D P G C). option_map certificate.Finalization l.brought) is ∙ brought.2))
+        (λ later. ⊎_elim
+        (λ is. none-some c (ap (λ (l : Life S D P G C). option_map certificate.Finalization l.brought) is ∙ brought.2))
+        (λ none. Contains-nil brought.0 none)
+        (Contains-cases last_life [] brought.0 later))
+        (Contains-cases first_life (last_life ∷ []) brought.0 (subst (λ (k : ℕ). Contains (m.lives k) brought.0) (is-first i signs) brought.1)));
   }
 
   told : AreReported g f scheme m w (both_reports x)

@@ -43,7 +43,7 @@ use Rattle.simplex_member.specs.Layers.{Collected, IsUp, Unopened, is_up, curren
 use Rattle.simplex_member.specs.Member.{Goes, NoneDue}
 use Rattle.simplex_member.specs.Packet.{Formats}
 use Rattle.simplex_member.specs.Point.{Opened, Began, Built, Judged, Leads, AsksBuild, AsksCertify, Constructs, Votes, History}
-use Rattle.simplex_member.specs.Recorded.{record_of}
+use Rattle.simplex_member.specs.Recorded.{kept_of, record_of}
 use Rattle.simplex_member.specs.Setup.{IsInTime, Setup, member_of}
 use Rattle.network_example.specs.Finalized.{CanBeKept, agreeing, finalizing, IsLone, Lone, alone, context_behind, finalization_behind, finalize_behind, made, notarization_behind, notarize_behind, proposal_behind, round_of, signed_by}
 use Rattle.network_example.proofs.Far.{AreNear, AreOfNear, leads-alone, seen-far, stage-far}
@@ -762,14 +762,14 @@ module _ {S D P G C : Type 0} (g : Ghosts S D P G C) (f : Formats S D P G C) (x 
   )
 
   -- the verdict is awaited, and none is there
-  pub unjudged-first : IsJudged h2 1 → ⊥
-  unjudged-first j = no-verdict (entries (record_of h2)) 1 (tt, (tt, tt)) j.0 j.1 j.2 j.3
+  pub unjudged-first : IsJudged s h2 1 → ⊥
+  unjudged-first j = no-verdict (entries (kept_of 1 h2)) 1 (tt, (tt, tt)) j.0 j.1 j.2 j.3
 
   pub awaited-first : IsAwaited s h2 1
   awaited-first = record { proposal = proposal_of 0; asked = (0, omega arith, refl); at = refl; above = omega arith; first = unjudged-first }
 
-  pub unjudged-second : IsJudged h4 2 → ⊥
-  unjudged-second j = no-verdict (entries (record_of h4)) 2 (tt, (tt, (λ is. later 1 2 one-two (sym is), (tt, (tt, (tt, (tt, tt))))))) j.0 j.1 j.2 j.3
+  pub unjudged-second : IsJudged s h4 2 → ⊥
+  unjudged-second j = no-verdict (entries (kept_of 1 h4)) 2 (tt, (tt, (λ is. later 1 2 one-two (sym is), (tt, (tt, (tt, (tt, tt))))))) j.0 j.1 j.2 j.3
 
   pub awaited-second : IsAwaited s h4 2
   awaited-second = record { proposal = proposal_of 1; asked = (0, omega arith, refl); at = refl; above = omega arith; first = unjudged-second }
@@ -783,7 +783,7 @@ module _ {S D P G C : Type 0} (g : Ghosts S D P G C) (f : Formats S D P G C) (x 
         verifies = tt;
         follows = record {
           notarized = (proposal_of 0, refl, (1, omega arith, refl));
-          first = λ t verdict same here. no-verdict (entries (record_of h2)) 1 (tt, (tt, tt)) t verdict same here;
+          first = λ t verdict same here. no-verdict (entries (kept_of 1 h2)) 1 (tt, (tt, tt)) t verdict same here;
         };
       };
       readable = can.kept 0 (omega arith) (artifact.Certification (round_of 1) true) (2, omega arith, refl);
@@ -850,7 +850,7 @@ module _ {S D P G C : Type 0} (g : Ghosts S D P G C) (f : Formats S D P G C) (x 
         verifies = tt;
         follows = record {
           notarized = (proposal_of 1, refl, (6, omega arith, refl));
-          first = λ t verdict same here. no-verdict (entries (record_of h4)) 2 (tt, (tt, (λ is. later 1 2 one-two (sym is), (tt, (tt, (tt, (tt, tt))))))) t verdict same here;
+          first = λ t verdict same here. no-verdict (entries (kept_of 1 h4)) 2 (tt, (tt, (λ is. later 1 2 one-two (sym is), (tt, (tt, (tt, (tt, tt))))))) t verdict same here;
         };
       };
       readable = can.kept 1 (omega arith) (artifact.Certification (round_of 2) true) (2, omega arith, refl);

@@ -65,10 +65,11 @@ module _ {S D C : Type 0} where
       skip_budget = 0;
     };
     me = 0;
-    genesis = genesis;
+    genesis = Some genesis;
     silence = None;
     forward = policy.Disabled;
     tracks = false;
+    rewrites = false;
   }
 
 module _ {S D P G C : Type 0} (g : Ghosts S D P G C) (x : Lone S D G C) where
@@ -118,7 +119,7 @@ module _ {S D P G C : Type 0} (g : Ghosts S D P G C) (x : Lone S D G C) where
       ∷ Went (event.Built 1 (Some (x.payload 2))) (agreeing 1) ∷ Went (event.Verdict 2 true) (finalizing 1) ∷ []) None
 
   abbrev pub lone_life : Life S D P G C
-  lone_life = record { setup = alone x.own (x.payload 0); course = two_views }
+  lone_life = record { setup = alone x.own (x.payload 0); brought = None; founded = []; course = two_views }
 
   abbrev pub lone_member : Members S D P G C
   lone_member = record { setup = λ i. alone x.own (x.payload 0); lives = λ i. lone_life ∷ [] }
