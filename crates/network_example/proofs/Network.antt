@@ -136,8 +136,11 @@ module _ {S D P G C : Type 0} (g : Ghosts S D P G C) (f : Formats S D P G C) (sc
       alike = λ i correct. keys.alike i (below i correct);
       owner = λ i correct. refl;
       me = λ i correct. refl;
-      lived = λ i correct. ((four_world x).recorded i, both-lived g f x.own x.genesis x.signed i (below i correct) (keys.alike i (below i correct)).size_is (keys.attests i (below i correct)) x.packed (keys.certifies i (below i correct)) (packets.recordable i (below i correct)) packets.certificate_recordable
-          (x.handed i) (packets.handed i) packets.read x.junk packets.junk);
+      lived = λ i correct. (
+        (four_world x).recorded i,
+        both-lived g f x.own x.genesis x.signed i (below i correct) (keys.alike i (below i correct)).size_is (keys.attests i (below i correct)) x.packed (keys.certifies i (below i correct)) (packets.recordable i (below i correct)) packets.certificate_recordable
+            (x.handed i) (packets.handed i) packets.read x.junk packets.junk,
+      );
       honest = λ i sender correct y came.
           each-fine HoldsHonest (junk-honest x.junk packets.junk) moment-honest (λ k. handed-honest (x.handed k) (sender_to k) (packets.handed k)) i came.1.0 came.1.1 came.0 came.1.2 sender y came.2;
       floors = λ i correct c brought. absurd (⊎_elim
