@@ -311,6 +311,7 @@ module _ {S D P G C : Type 0} (g : Ghosts S D P G C) (f : Formats S D P G C) (s 
       let views_same = same s.voter.length (kept h) c last.1 in
       record {
         was_kept = last.0;
+        last = last.1;
         kept = refl;
         begins = refl;
         final = views_same.0;

@@ -28,6 +28,7 @@ module _ {S D P G C : Type 0} (g : Ghosts S D P G C) (f : Formats S D P G C) (s 
   -- and the same last finalized one, which is the view of the finalization; what the voter knows of both stays; and nothing is handed out
   pub record IsRewriteOf (h : History S D P G C) (c : Finalization S D P G C) : Type 0 where
     pub was_kept : Contains (kept_of s.voter.length h) (artifact.Finalization c)
+    pub last : c.proposal.round.view ≡ last_finalized (entries (kept_of s.voter.length h))
     pub kept : kept_of s.voter.length (Rewrote c ∷ h) ≡ rewritten s.voter.length c (kept_of s.voter.length h)
     pub begins : floor (entries (kept_of s.voter.length (Rewrote c ∷ h))) ≡ c.proposal.round.view
     pub final : last_finalized (entries (kept_of s.voter.length (Rewrote c ∷ h))) ≡ last_finalized (entries (kept_of s.voter.length h))
