@@ -1,5 +1,5 @@
 -- A vote that is due is of a view above that behind which what is kept begins.
-use Rattle.std.proofs.Common.{◌≡◌, ℕ, ◌<◌, List, [], ◌∷◌, Option, subst, arith}
+use Rattle.std.proofs.Common.{◌<◌, [], ◌∷◌, arith}
 use Rattle.types_core.specs.declared.scheme.Scheme.{Ghosts}
 use Rattle.simplex_messages.specs.declared.vote.Vote.{Vote}
 use Rattle.simplex_messages.specs.declared.vote.Vote.TheVariants as vote

@@ -1,12 +1,11 @@
 -- A notarize that is due names a parent at or above the view behind which the record begins: what its proposal was bound to does.
 use Rattle.std.proofs.Common.{◌≡◌, ◌≢◌, ◌⊎◌, inl, inr, ⊎_elim, ℕ, ◌+◌, ◌≤◌, ◌<◌, ◌==◌, Bool, true, false, List, [], ◌∷◌, ◌++◌, Option, Some, None, refl, sym, ◌∙◌, ap, subst, arith}
-use Rattle.std.specs.Prelude.{◌||◌, Contains, IsSome, if◌then◌else◌, is_some, max, option_map, unwrap_or}
+use Rattle.std.specs.Prelude.{◌||◌, Contains, IsSome, if◌then◌else◌, is_some, option_map, unwrap_or}
 use Rattle.std.specs.Option.{option_or}
 use Rattle.std.proofs.lemmas.Bool.{cases_lt}
 use Rattle.std.proofs.lemmas.Option.{none-some}
 use Rattle.types_quorum.specs.Counting.{Contains-head, Contains-nil, Contains-rest}
 use Rattle.types_core.specs.declared.context.Context.{Context}
-use Rattle.types_core.specs.declared.position.Round.{Round}
 use Rattle.types_core.specs.declared.proposal.Proposal.{Proposal}
 use Rattle.types_core.specs.declared.scheme.Scheme.{Ghosts}
 use Rattle.types_core.specs.Subject.{notarize, nullify, finalize}
@@ -28,7 +27,6 @@ use Rattle.voter_history.specs.Past.{Item}
 use Rattle.voter_rules.specs.Ancestry.{AreCoveredBetween, IsSpan, explicit, held_at}
 use Rattle.voter_rules.specs.Requests.{BuildIsDue}
 use Rattle.voter_rules.specs.VotesDue.{NotarizeIsDue}
-use Rattle.voter_rules.specs.Building.{proposal_on}
 use Rattle.voter_laws.specs.Matching.{EachHistoryMatches}
 use Rattle.voter_laws.specs.Recording.{EachRecordIsKnown, IsKnown}
 use Rattle.simplex_member.specs.Allowed.{Allowed, AreAllowed}

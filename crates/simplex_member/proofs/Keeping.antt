@@ -1,18 +1,18 @@
 -- What a life found is of what was ever recorded, and each of its points was allowed.
-use Rattle.std.proofs.Common.{◌≡◌, ◌⊎◌, inl, inr, ⊎_elim, ℕ, Bool, List, [], ◌∷◌, ◌++◌, Option, Some, None, refl, sym, ◌∙◌, ap, subst, arith, append_assoc}
+use Rattle.std.proofs.Common.{◌≡◌, ◌⊎◌, inl, inr, ⊎_elim, Bool, List, [], ◌∷◌, ◌++◌, Option, Some, None, sym, ◌∙◌, ap, subst, append_assoc}
 use Rattle.std.specs.Prelude.{Contains, option_to_list}
 use Rattle.std.proofs.lemmas.List.{append-nil}
 use Rattle.std.proofs.lemmas.Option.{none-some}
 use Rattle.std.proofs.lemmas.List.Elements.{Contains-append_cases, Contains-append_left, Contains-append_right}
-use Rattle.types_quorum.specs.Counting.{Contains-cases, Contains-head, Contains-nil, Contains-rest}
+use Rattle.types_quorum.specs.Counting.{Contains-head, Contains-nil, Contains-rest}
 use Rattle.types_core.specs.declared.scheme.Scheme.{Ghosts}
 use Rattle.messages_certificates.specs.declared.artifact.Artifact.{Artifact}
 use Rattle.simplex_member.specs.Allowed.{AreAllowed}
 use Rattle.simplex_member.specs.declared.event.Event.{Event}
 use Rattle.simplex_member.specs.Lives.{Course, Life, Broken, Lasting, Turn, Refuses, Rewrites, Went, IsCut, Lived, Lives, Turns}
-use Rattle.simplex_member.specs.Member.{AreFound, AreOpening, Goes}
+use Rattle.simplex_member.specs.Member.{Goes}
 use Rattle.simplex_member.specs.Packet.{Formats, IsRecordable}
-use Rattle.simplex_member.specs.Point.{Point, Opened, Found, Began, Rewrote, History}
+use Rattle.simplex_member.specs.Point.{Point, Found, Rewrote, History}
 use Rattle.simplex_member.specs.Recorded.{added_by, fresh_of, kept_of, record_of, recorded_by}
 use Rattle.simplex_member.specs.Setup.{Setup}
 use Rattle.simplex_member.proofs.Allowing.{begun-allowed, goes-allowed}

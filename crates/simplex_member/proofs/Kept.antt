@@ -1,6 +1,6 @@
 -- What is kept of a record, through rewrites: a part of it, and all of it that reaches above the last finalized view.
 use Rattle.std.proofs.Common.{◌≡◌, ⊎_elim, ◌⊎◌, inl, inr, ℕ, ◌≤◌, ◌<◌, ◌==◌, Bool, true, false, List, [], ◌∷◌, ◌++◌, Option, Some, None, refl, sym, ◌∙◌, ap, subst, arith}
-use Rattle.std.specs.Prelude.{Contains, if◌then◌else◌, max, nat_lt, option_map, option_to_list, unwrap_or}
+use Rattle.std.specs.Prelude.{Contains, if◌then◌else◌, max, nat_lt}
 use Rattle.std.specs.List.{filter}
 use Rattle.std.proofs.lemmas.Bool.{both_ways, eqb-true, lt-ltb}
 use Rattle.std.proofs.lemmas.Option.{none-some}
@@ -16,7 +16,7 @@ use Rattle.voter_history.specs.History as views
 use Rattle.voter_laws.specs.Matching.{EachHistoryMatches}
 use Rattle.simplex_member.specs.Allowed.{Allowed, AreAllowed, MayRewrite}
 use Rattle.simplex_member.specs.Floors.{IsRewriteOf, TellsAll}
-use Rattle.simplex_member.specs.Layers.{finalized_of, known_of, latest, voter_of, voter_points}
+use Rattle.simplex_member.specs.Layers.{finalized_of, latest, voter_of, voter_points}
 use Rattle.simplex_member.specs.Packet.{Formats}
 use Rattle.simplex_member.specs.Point.{Point, Rewrote, History}
 use Rattle.simplex_member.specs.Recorded.{finalization_in, keeps, kept_of, next_floor, put_behind, record_of, recorded_by}

@@ -1,5 +1,5 @@
 -- Each vote that is sent was due, and none is due where a life has answered.
-use Rattle.std.proofs.Common.{◌≡◌, ⊎_elim, ℕ, List, [], ◌∷◌, ◌++◌, Option, Some, refl, sym, subst}
+use Rattle.std.proofs.Common.{⊎_elim, ℕ, List, [], ◌∷◌, ◌++◌, Option, refl, sym, subst}
 use Rattle.std.specs.Prelude.{Contains}
 use Rattle.types_quorum.specs.Counting.{Contains-cases, Contains-nil}
 use Rattle.types_core.specs.declared.scheme.Scheme.{Ghosts}
@@ -8,9 +8,9 @@ use Rattle.simplex_messages.specs.declared.vote.Vote.{Vote}
 use Rattle.simplex_record.specs.World.{World, IsCorrect}
 use Rattle.simplex_member.specs.Deeds.{Sends}
 use Rattle.simplex_member.specs.Lives.{Course, Life, Broken, Lasting, Turn, Refuses, Rewrites, Went, HandedOut, Lived, LiveByNodes, Members, Turns}
-use Rattle.simplex_member.specs.Member.{Goes, NoneDue, after}
+use Rattle.simplex_member.specs.Member.{NoneDue, after}
 use Rattle.simplex_member.specs.Packet.{Formats, of_vote}
-use Rattle.simplex_member.specs.Point.{Point, Rewrote, History}
+use Rattle.simplex_member.specs.Point.{Rewrote, History}
 use Rattle.simplex_member.specs.Sent.{WasCastDue, answers_of, turns_answer}
 use Rattle.simplex_member.specs.Setup.{Setup}
 use Rattle.simplex_member.proofs.Blame.{after-goes, refused-none}

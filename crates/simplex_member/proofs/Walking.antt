@@ -17,7 +17,7 @@ use Rattle.simplex_member.specs.Lives.{Course, Founds, Life, Broken, Lasting, Tu
 use Rattle.simplex_member.specs.Member.{Goes, after}
 use Rattle.simplex_member.specs.Packet.{Formats}
 use Rattle.simplex_member.specs.Point.{Point, Found, Heard, Rewrote, History}
-use Rattle.simplex_member.specs.Recorded.{fresh_of, kept_of, record_of}
+use Rattle.simplex_member.specs.Recorded.{fresh_of, kept_of}
 use Rattle.simplex_member.specs.Refusals.{refused_deeds, tests}
 use Rattle.simplex_member.specs.Setup.{IsOfOneMember, Setup}
 use Rattle.simplex_member.proofs.Blame.{after-goes}
