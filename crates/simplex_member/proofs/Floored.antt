@@ -60,14 +60,12 @@ module _ {D : Type 0} where
   final-there : (r : List (Entry D)) → 0 < last_finalized r → IsFinal r (last_finalized r)
   final-there [] some = absurd (omega (arith, some))
   final-there (e ∷ r) some = ⊎_elim
-      (λ less. later e (omega (arith, less)) (omega (arith, some, less)))
+      (λ less. later e (omega (arith, less)) (final-there r (omega (arith, some, less))))
       (λ most. here e (omega (arith, some, most)) (omega (arith, most)))
       (cases_lt (finalizes e) (last_finalized r))
     where
-      later : (x : Entry D) → last_finalized (x ∷ r) ≡ last_finalized r → 0 < last_finalized r → IsFinal (x ∷ r) (last_finalized (x ∷ r))
-      later x same more =
-          let rest = final-there r more in
-          (rest.0, rest.1 ∙ sym same, Contains-rest x r (recorded.taken (finalize rest.0)) rest.2)
+      later : (x : Entry D) → last_finalized (x ∷ r) ≡ last_finalized r → IsFinal r (last_finalized r) → IsFinal (x ∷ r) (last_finalized (x ∷ r))
+      later x same rest = (rest.0, rest.1 ∙ sym same, Contains-rest x r (recorded.taken (finalize rest.0)) rest.2)
 
       here : (x : Entry D) → 0 < finalizes x → last_finalized (x ∷ r) ≡ finalizes x → IsFinal (x ∷ r) (last_finalized (x ∷ r))
       here (recorded.voted s) above same = absurd (omega (arith, above))

@@ -46,14 +46,14 @@ filter-there {X} test (y ∷ xs) x here passes = ⊎_elim
 
 pub filter-stood : {X : Type 0} (test : X → Bool) (xs : List X) (x : X) → Contains (filter test xs) x → Contains xs x
 filter-stood test [] x here = absurd (Contains-nil x here)
-filter-stood {X} test (y ∷ xs) x here = go (test y) here
+filter-stood {X} test (y ∷ xs) x here = go (test y) here (λ later. filter-stood test xs x later)
   where
-    go : (b : Bool) → Contains (if b then y ∷ filter test xs else filter test xs) x → Contains (y ∷ xs) x
-    go true there = ⊎_elim
+    go : (b : Bool) → Contains (if b then y ∷ filter test xs else filter test xs) x → (Contains (filter test xs) x → Contains xs x) → Contains (y ∷ xs) x
+    go true there stood = ⊎_elim
         (λ is. subst (λ (z : X). Contains (y ∷ xs) z) is (Contains-head y xs))
-        (λ later. Contains-rest y xs x (filter-stood test xs x later))
+        (λ later. Contains-rest y xs x (stood later))
         (Contains-cases y (filter test xs) x there)
-    go false there = Contains-rest y xs x (filter-stood test xs x there)
+    go false there stood = Contains-rest y xs x (stood there)
 
 pub put-nothing : {X : Type 0} (xs : List X) (o : Option X) → put_behind xs o ≡ [] → xs ≡ []
 put-nothing [] o is = refl
@@ -285,19 +285,18 @@ module _ {S D P G C : Type 0} (g : Ghosts S D P G C) (f : Formats S D P G C) (s 
     kept-floor [] all = omega arith
     kept-floor (p ∷ h) all = ⊎_elim
         (λ rewrote. subst (λ (q : Point S D P G C). floor (entries (kept (q ∷ h))) ≤ views.floor s.voter (voter_of s (q ∷ h))) (sym rewrote.1) (at-rewrite rewrote.0))
-        (λ puts. subst (λ (l : List (Artifact S D P G C)). floor (entries l) ≤ views.floor s.voter (voter_of s (p ∷ h))) (sym (puts s.voter.length (kept h))) (by (kept h) refl))
+        (λ puts. subst (λ (l : List (Artifact S D P G C)). floor (entries l) ≤ views.floor s.voter (voter_of s (p ∷ h))) (sym (puts s.voter.length (kept h))) (by (kept h) refl (kept-floor h all.1)))
         (ways-of p)
       where
         at-rewrite : (c : Finalization S D P G C) → floor (entries (kept (Rewrote c ∷ h))) ≤ views.floor s.voter (voter_of s (Rewrote c ∷ h))
         at-rewrite c = omega arith
 
-        by : (xs : List (Artifact S D P G C)) → kept h ≡ xs → floor (entries (put_behind (kept h) (recorded_by p))) ≤ views.floor s.voter (voter_of s (p ∷ h))
-        by [] none =
+        by : (xs : List (Artifact S D P G C)) → kept h ≡ xs → floor (entries (kept h)) ≤ views.floor s.voter (voter_of s h) → floor (entries (put_behind (kept h) (recorded_by p))) ≤ views.floor s.voter (voter_of s (p ∷ h))
+        by [] none was =
             let same : kept h ≡ record_of h = none ∙ sym (kept-nothing h none) in
             subst (λ (l : List (Artifact S D P G C)). floor (entries (put_behind l (recorded_by p))) ≤ views.floor s.voter (voter_of s (p ∷ h))) (sym same) (matches g f s law p h all).floor
-        by (x ∷ xs) some =
+        by (x ∷ xs) some was =
             let rises = floors-rise s.voter (voter_points s (latest (p ∷ h)) (views.last_finalized (voter_of s h)) p) (voter_of s h) in
-            let was = kept-floor h all.1 in
             let same = floor-put (kept h) (recorded_by p) (λ none. Contains-nil x (subst (λ (l : List (Artifact S D P G C)). Contains l x) (sym some ∙ none) (Contains-head x xs))) in
             omega (arith, rises, was, same)
 
