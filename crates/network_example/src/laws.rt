@@ -56,7 +56,8 @@ pub fn plain_contradictions_are_named<D: Digest>()
 }
 
 /// A committee of one finalizes two views, the second on the first: it builds in each, votes, makes each certificate of its own vote, and
-/// finds good what it built. Both proposals are handed out as final, and both finalizations seen.
+/// finds good what it built. Both proposals are handed out as final, and both finalizations seen. Then it rewrites its record, crashes while
+/// it does, and opens over the second finalization, of which alone the new record consists.
 pub fn two_views_are_finalized<S: Scheme<D>, D: Digest>()
     ensures { (f : Formats S D S.PublicKey S.Signature S.Certificate) → TwoViewsAreFinalized S.Scheme f }
 {}

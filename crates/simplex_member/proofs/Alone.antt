@@ -5,7 +5,7 @@ use Rattle.std.proofs.lemmas.Bool.{cases_Bool, eqb-true}
 use Rattle.std.proofs.lemmas.List.{append-nil, map-append}
 use Rattle.std.proofs.lemmas.List.Elements.{Contains-append_cases, Contains-append_left, Contains-append_right, Contains-push_cases}
 use Rattle.std.proofs.lemmas.Option.{none-some}
-use Rattle.types_quorum.specs.Counting.{Contains-cases, Contains-head}
+use Rattle.types_quorum.specs.Counting.{Contains-cases, Contains-head, Contains-nil}
 use Rattle.types_core.specs.declared.position.Round.{Round}
 use Rattle.types_core.specs.declared.proposal.Proposal.{Proposal}
 use Rattle.types_core.specs.declared.scheme.Scheme.{Ghosts}
@@ -554,7 +554,7 @@ module _ {S D P G C : Type 0} (g : Ghosts S D P G C) (f : Formats S D P G C) (s 
   nothing-between : IsBetween [] []
   nothing-between = record {
     part = λ x here. here;
-    own = λ p above here. here;
+    own = λ p above here. absurd (Contains-nil (recorded.taken (notarize p)) here);
     alone = nothing-alone s.voter.length (scheduled_leader s.voter) s.me;
   }
 

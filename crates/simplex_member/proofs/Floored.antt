@@ -38,7 +38,7 @@ use Rattle.simplex_member.specs.Recorded.{record_of, recorded_by}
 use Rattle.simplex_member.specs.Setup.{Setup, member_of}
 use Rattle.simplex_member.proofs.Binding.{due-binds, gone, under}
 use Rattle.simplex_member.proofs.Kept.{floor-final, floor-put, put-nothing}
-use Rattle.simplex_member.proofs.Low.{AreLow, Binds, all-bind, binds-less, binds-nil}
+use Rattle.simplex_member.proofs.Low.{AreLow, Binds, all-bind, binds-less}
 use Rattle.simplex_member.proofs.Recordable.{matches, orderly}
 use Rattle.simplex_member.proofs.Rising.{all-rise}
 use Rattle.simplex_member.proofs.Telling.{apart, tells-record}
@@ -114,13 +114,6 @@ module _ {S D P G C : Type 0} where
   low-option : (Q : ℕ → Type 0) (view now low : ℕ) (o : Option (Certificate S D P G C)) → AreLow Q view (unwrap_or (option_map (takes_certificate now low) o) [])
   low-option Q view now low None = tt
   low-option Q view now low (Some c) = low-certificate Q view now low c
-
-  low-outcome : (Q : ℕ → Type 0) (view now at : ℕ) (answer : Option Bool) (outcome : Outcome) → AreLow {S = S} {D = D} {P = P} {G = G} {C = C} Q view (takes_outcome now at answer outcome)
-  low-outcome Q view now at (Some true) Counts = (tt, tt)
-  low-outcome Q view now at (Some false) Counts = (tt, tt)
-  low-outcome Q view now at None Counts = (tt, tt)
-  low-outcome Q view now at answer Falls = (tt, tt)
-  low-outcome Q view now at answer Passes = tt
 
 -- what is explicit, by its tests
 some-explicit : {D : Type 0} (zero_is first second : Bool) (genesis : Option D) (o : Option (Proposal D)) → zero_is ≡ false → first ≡ true → IsSome o
@@ -230,6 +223,13 @@ module _ {S D P G C : Type 0} (g : Ghosts S D P G C) (f : Formats S D P G C) (s 
     builds = λ n handoff context a at. low-on p h view context.parent.0 (i.builds n handoff context (builds n (handoff, context) a) at);
   }
 
+  low-outcome : (Q : ℕ → Type 0) (view now at : ℕ) (answer : Option Bool) (outcome : Outcome) → AreLow {S = S} {D = D} {P = P} {G = G} {C = C} Q view (takes_outcome now at answer outcome)
+  low-outcome Q view now at (Some true) Counts = (tt, tt)
+  low-outcome Q view now at (Some false) Counts = (tt, tt)
+  low-outcome Q view now at None Counts = (tt, tt)
+  low-outcome Q view now at answer Falls = (tt, tt)
+  low-outcome Q view now at answer Passes = tt
+
   verify-step : (h : History S D P G C) (n : ℕ) (context : Context D P) (p : Proposal D) (view : ℕ) → floor_of s (AsksVerify n context p ∷ h) ≤ view → Allowed g f s h (AsksVerify n context p) → AreAllowed g f s h → LowAt h view → LowAt (AsksVerify n context p ∷ h) view
   verify-step [] n context p view kept a all i = absurd (apart a.order)
   verify-step (q ∷ h) n context p view kept a all i = stays (AsksVerify n context p) (q ∷ h) view kept (λ k b e. e) (
@@ -298,7 +298,7 @@ module _ {S D P G C : Type 0} (g : Ghosts S D P G C) (f : Formats S D P G C) (s 
 
   low-at : (h : History S D P G C) → AreAllowed g f s h → (view : ℕ) → floor_of s h ≤ view → LowAt h view
   low-at [] all view kept = record {
-    binds = binds-nil (Low [] view);
+    binds = λ none b is. absurd (none-some b is);
     builds = λ n handoff context x at. absurd (none-some (handoff, context) x);
   }
   low-at (p ∷ h) all view kept =

@@ -22,9 +22,6 @@ module _ {S D P G C : Type 0} (Q : ℕ → Type 0) where
   abbrev pub Binds : List (Item S D P G C) → Type 0
   Binds x = past.has_notarized x ≡ false → (b : Proposal D × D) → past.binding x ≡ Some b → Q b.0.parent
 
-  pub binds-nil : Binds []
-  binds-nil none b is = absurd (none-some b is)
-
   -- an item that binds nothing, or what has Q
   abbrev FitsSo : Item S D P G C → Type 0
   FitsSo (past.bound p payload) = Q p.parent

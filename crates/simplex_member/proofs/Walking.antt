@@ -235,7 +235,7 @@ module _ {S D P G C : Type 0} (g : Ghosts S D P G C) (f : Formats S D P G C) (s 
       let rest = lives-grow (ever ++ new) (kept_of life.setup.voter.length led.0) lives all left led.3 in
       (new ++ rest.0, rest.1 ∙ append_assoc ever new rest.0)
 
-  pub lived-first : (ever found : List (Artifact S D P G C)) (life : Life S D P G C) (lives : List (Life S D P G C)) (all left : List (Artifact S D P G C)) → Lives g f s ever found (life ∷ lives) all left → IsPart found ever → IsLived all life
+  unfoldable pub lived-first : (ever found : List (Artifact S D P G C)) (life : Life S D P G C) (lives : List (Life S D P G C)) (all left : List (Artifact S D P G C)) → Lives g f s ever found (life ∷ lives) all left → IsPart found ever → IsLived all life
   lived-first ever found life lives all left led part =
       let rest = lives-grow (ever ++ (life.founded ++ fresh_of led.0)) (kept_of life.setup.voter.length led.0) lives all left led.3 in
       record {
