@@ -228,7 +228,7 @@ module _ {S D P G C : Type 0} (g : Ghosts S D P G C) (f : Formats S D P G C) (s 
     pub among : all ≡ (ever ++ (life.founded ++ fresh_of end)) ++ behind
     pub own : IsOfOneMember s life.setup
 
-  lives-grow : (ever found : List (Artifact S D P G C)) (lives : List (Life S D P G C)) (all left : List (Artifact S D P G C)) → Lives g f s ever found lives all left → (more : List (Artifact S D P G C)) × (all ≡ ever ++ more)
+  pub lives-grow : (ever found : List (Artifact S D P G C)) (lives : List (Life S D P G C)) (all left : List (Artifact S D P G C)) → Lives g f s ever found lives all left → (more : List (Artifact S D P G C)) × (all ≡ ever ++ more)
   lives-grow ever found [] all left is = ([], is.0 ∙ sym (append-nil ever))
   lives-grow ever found (life ∷ lives) all left led =
       let new = life.founded ++ fresh_of led.0 in
