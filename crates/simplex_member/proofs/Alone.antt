@@ -564,6 +564,7 @@ module _ {S D P G C : Type 0} (g : Ghosts S D P G C) (f : Formats S D P G C) (s 
   -- of a life among these, at its beginning
   begun-between : (ever found : List (Artifact S D P G C)) (lives : List (Life S D P G C)) (all left : List (Artifact S D P G C)) (life : Life S D P G C) → Lives g f s ever found lives all left → IsBetween ever found
       → Contains lives life → (was : IsLived g f s all life) × IsBetween was.ever was.found
+  unfolding lived-first
   begun-between ever found [] all left life led between here = absurd (omega (arith, here.1))
   begun-between ever found (x ∷ lives) all left life led between here = ⊎_elim
       (λ is. subst (λ (l : Life S D P G C). (was : IsLived g f s all l) × IsBetween was.ever was.found) is (lived-first g f s ever found x lives all left led between.part, between))
