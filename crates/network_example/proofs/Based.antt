@@ -1,5 +1,5 @@
 -- The member that begins at a floor: its life, and what it handed out.
-use Rattle.std.proofs.Common.{◌≡◌, inl, inr, ⊎_elim, ℕ, ◌<◌, ◌==◌, Bool, true, false, [], ◌∷◌, Option, Some, refl, sym, ◌∙◌, ap, subst, arith}
+use Rattle.std.proofs.Common.{◌≡◌, inl, inr, ⊎_elim, ℕ, ◌<◌, ◌≤◌, ◌==◌, Bool, true, false, [], ◌∷◌, Option, Some, refl, sym, ◌∙◌, ap, subst, arith}
 use Rattle.std.specs.Prelude.{Contains, if◌then◌else◌, nat_lt, option_map}
 use Rattle.std.proofs.lemmas.Bool.{both_ways}
 use Rattle.std.proofs.lemmas.List.Elements.{All-cons, All-nil}
@@ -80,7 +80,7 @@ module _ {S D P G C : Type 0} (g : Ghosts S D P G C) (f : Formats S D P G C) (x 
 
   goes-based : Goes g f s [] (Opened 0 ∷ floor_found ∷ Began ∷ Leads 1 3 ∷ Leads 3 3 ∷ []) begun_above
   goes-based = (
-    record { order = refl; due = in-time 0 (omega arith); fits = tt; readable = tt },
+    record { order = refl; due = in-time g f x size finalized nullified 0 (omega arith); fits = tt; readable = tt },
     (
       record { order = (some-points (Opened 0) [], refl); due = tt; fits = may-finalize g f x size finalized nullified; readable = tt },
       (

@@ -168,7 +168,7 @@ module _ {S D P G C : Type 0} (g : Ghosts S D P G C) (f : Formats S D P G C) (sc
     seen = inl (record {
       member = 0;
       correct = (one-of-four, λ here. ⊎_elim (λ is. omega (arith, is)) (λ none. let l : none.0 < 0 = none.1 in omega (arith, l)) (Contains-cases 3 [] 0 here));
-      handed = inl (sender_to 0, x.handed 0, (second_life x 0, (1, last-of-two, refl), (1, last-of-two, refl)), handed-holds (x.handed 0) (sender_to 0) (packets.handed 0));
+      handed = inl (sender_to 0, (x.handed 0, (second_life x 0, (1, last-of-two, refl), (1, last-of-two, refl)), handed-holds (x.handed 0) (sender_to 0) (packets.handed 0)));
       verifies = keys.certifies 0 (omega arith);
     });
     taken = λ i correct. (1, last-of-two, refl);
