@@ -17,6 +17,8 @@ const MARKS = {
   "judged": { colour: "#59b6a5", row: 2, shape: "triangle", name: "good verdict" },
   "finalized": { colour: "#0d6b36", row: 3, shape: "diamond", name: "final" },
   "crashed": { colour: "#d0342c", row: 3, shape: "cross", name: "crash" },
+  "down": { colour: "#d0342c", row: 3, shape: "triangle", name: "kill" },
+  "closed": { colour: "#e08a00", row: 3, shape: "cross", name: "closed by its host" },
   "opened": { event: "opened", colour: "#1d232b", row: 3, shape: "circle", name: "opening" },
   "lost": { colour: "#d0342c", row: 3, shape: "square", name: "record lost" },
   "contradicts": { colour: "#ff0040", row: 3, shape: "star", name: "contradiction" },
@@ -101,7 +103,8 @@ function extend(run, event) {
   switch (event.event) {
     case "built": run.builds.set(event.payload, event); run.laid = null; break;
     case "finalized": run.finals.push(event); run.laid = null; break;
-    case "crashed":
+    case "closed": closeSpan(run.open, member, at); break;
+    case "crashed": case "down":
       closeSpan(run.open, member, at);
       if (!run.down[member]) run.downs.push(run.down[member] = { member, at, until: null });
       break;

@@ -284,4 +284,55 @@ const PRESETS =
   "crash 1 18 2 1\n" +
   "cut 1594 3594 0,2,4,6\n" +
   "lines none\n" +
+  "run\n" +
+  "# Four members, one dead at a time: one from the first moment on, and again later, another in between. Who comes back catches up.\n" +
+  "members 4\n" +
+  "seed 5\n" +
+  "views 24\n" +
+  "down 1 0 700\n" +
+  "down 2 900 1600\n" +
+  "down 1 1700 2300\n" +
+  "lines some\n" +
+  "run\n" +
+  "# Seven members, one of whom lies: one crashes inside a write, and is killed before it is opened; another is dead for two times on end.\n" +
+  "members 7\n" +
+  "seed 3\n" +
+  "views 30\n" +
+  "lose 50\n" +
+  "lie 6 withheld\n" +
+  "crash 2 4 3 400\n" +
+  "down 2 300 1500\n" +
+  "down 4 500 1000\n" +
+  "down 4 1000 1800\n" +
+  "lines some\n" +
+  "run\n" +
+  "# Four members, two of whom are dead for twelve seconds: the others are no quorum, and their hosts wait twice as long each time.\n" +
+  "members 4\n" +
+  "seed 9\n" +
+  "views 8\n" +
+  "down 2 100 12000\n" +
+  "down 3 150 12100\n" +
+  "reopen 1000\n" +
+  "lines some\n" +
+  "run\n" +
+  "# Four members, one dead for good, and of a thousand packets 300 are lost: behind view 33 nobody enters one any more.\n" +
+  "members 4\n" +
+  "seed 154\n" +
+  "views 66\n" +
+  "until 120000\n" +
+  "lose 300\n" +
+  "term 4 10000 2\n" +
+  "down 3 0 1000000000\n" +
+  "lines some\n" +
+  "run\n" +
+  "# The same, with hosts that open a record again behind five seconds without a view: the committee gets on.\n" +
+  "members 4\n" +
+  "seed 154\n" +
+  "views 66\n" +
+  "until 120000\n" +
+  "lose 300\n" +
+  "term 4 10000 2\n" +
+  "down 3 0 1000000000\n" +
+  "reopen 5000\n" +
+  "lines some\n" +
   "run\n";

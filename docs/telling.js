@@ -20,7 +20,7 @@ function told(event, { world, ways }, led) {
   const votes = `${quorum} of ${world.members} members`, liars = Object.keys(ways).length, shared = 2 * quorum - world.members;
   switch (kind === undefined || event.event === "lied" ? event.event : `${event.event} ${kind}`) {
     case "opened": return event.life > 1
-      ? [`${who} is up again, in view ${view}.`, "It went through what its disk kept. Votes and certificates stand on the disk before they are sent, so it contradicts nothing that it said before the crash."]
+      ? [`${who} is up again, in view ${view}.`, "It went through what its disk kept. Votes and certificates stand on the disk before they are sent, so it contradicts nothing that it said before."]
       : [`${who} opens its record, in view ${view}.`, "What stands in a record counts as if it were done now. This one is empty."];
     case "entered": return [`${who} enters view ${view}.`, view === 1 ? "Views begin with 1." : `A view is entered by a good verdict or a finalization of the one before, or by a nullification: ${LED[led] ?? (ways[member] ? "this one is a liar, over a node of its own" : "one of these came in")}.`];
     case "built": return [`${who} leads view ${view}: its application builds payload ${payload ?? "?"} on view ${parent}.`, "A leader builds on the highest view that is final or judged good, where all views between are given up by a quorum; a view that is skipped needs a nullification."];
@@ -34,6 +34,8 @@ function told(event, { world, ways }, led) {
     case "finalized": return [`At member ${member} payload ${payload} of view ${view} is final.`, `It, or what was built on it, was finalized by a quorum. Two quorums share at least ${shared} members${liars > world.faults
       ? `; ${liars} lie here, more than the ${world.faults} that may, so another chain can be final too.` : `, more than the ${world.faults} that may lie: so another chain can't be final too.`}`];
     case "crashed": return [`${who} crashes inside a call of its disk; ${event.bytes} bytes are left there.`, "Of the write some bytes stand, of what wasn't synced a part. Nothing that rests on the lost part was handed out."];
+    case "down": return [`${who} is killed, and will be opened again at ${(event.until / 1000).toFixed(2)} s.`, "What it wrote stays on its disk. Packets that come to it by then are lost, and nobody sends them again."];
+    case "closed": return [`${who}'s host closes its node, which stands in view ${view}, and opens the record again.`, `It entered no view for ${event.waited / 1000} s. What a node lacks it asks for once in a life, so where that ask or each answer was lost, a new life asks again.`];
     case "lost": return [`${who}'s record isn't opened again.`, "This never comes where the disk kept what disks keep: it would be a broken promise."];
     case "lied": return [`${who} lies: it ${LIES[kind] ?? kind}${view === undefined ? "" : `, in view ${view}`}.`, `Up to ${world.faults} of ${world.members} may. What it signs twice is evidence, wherever the two votes meet.`];
     case "blocked": return [`${who} blocks member ${event.other}.`, "It sent what can't be read, bears another's name, contradicts its own vote or doesn't certify."];

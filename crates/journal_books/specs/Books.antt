@@ -2,7 +2,7 @@
 use Rattle.std.specs.Prelude.{◌≡◌, ◌⊎◌, ◌-◌, ◌^◌, ℕ, Bool, true, false, List, [], ◌∷◌, ◌++◌}
 use Rattle.journal_single.specs.declared.disk.Disk as disk
 use Rattle.journal_single.specs.Disk.{MayLeave, LeavesOnly, Synced, counted}
-use Rattle.journal_single.specs.Journal.{IsRecord}
+use Rattle.journal_single.specs.Journal.{IsRecord, IsTooLong}
 use Rattle.journal_single.specs.Looking.{HasFound, IsLeftAsItWas}
 use Rattle.journal_single.specs.Record.{Reads, FitsBelow, IsForeign}
 use Rattle.simplex_journal.specs.Generation.{OneCounted}
@@ -37,6 +37,16 @@ module _ {M K : Type 0} where
   abbrev pub has_failed : Books M K → Bool
   has_failed (books.One journal) = journal.failed
   has_failed (books.Two pair) = pair.failed
+
+  -- the generation of the disk that is read, where there are two
+  abbrev pub generation_of : Books M K → ℕ
+  generation_of (books.One journal) = 0
+  generation_of (books.Two pair) = pair.generation
+
+  -- a body of so many bytes is too long behind the record
+  abbrev pub IsTooLongFor : Books M K → ℕ → Type 0
+  IsTooLongFor (books.One journal) size = IsTooLong (2 ^ 32) journal.gate size
+  IsTooLongFor (books.Two pair) size = IsTooLong (2 ^ 32 - 1) pair.gate size
 
   -- the disks that were looked at
   abbrev pub found_on : FoundBooks M K → Disks K

@@ -1,8 +1,9 @@
 //! The journal that a member keeps: over one disk, or over two, where it can be rewritten.
 
-ghost use Rattle.std.specs.Prelude.{◌≡◌, ◌≢◌, ◌⊎◌, ◌+◌, ◌++◌, [], ◌∷◌, List, ℕ, map, All, OnOk, IfErr, IsErrOf, true, false};
+ghost use Rattle.std.specs.Prelude.{◌≡◌, ◌≢◌, ◌⊎◌, ◌+◌, ◌-◌, ◌<◌, ◌^◌, ◌++◌, [], ◌∷◌, List, ℕ, length, map, All, OnOk, IfErr, IsErrOf, true, false};
 ghost use Rattle.simplex_journal.specs.declared.fault.PairFault.TheVariants.{Device, Exhausted, Failed, Memory, TooLong};
-ghost use Rattle.journal_books.specs.Books.{Leave, LeaveBook, HasFailed, HasNotFailed, IsBook, IsWithOrWithout, are_two, disks_of, has_failed};
+ghost use Rattle.journal_books.specs.Books.{Leave, LeaveBook, HasFailed, HasNotFailed, IsBook, IsTooLongFor, IsWithOrWithout, are_two, disks_of, generation_of, has_failed};
+ghost use Rattle.simplex_journal.specs.Standing.{IsShortList};
 
 use crate::disks::Disks;
 use crate::faults::told;
@@ -52,7 +53,14 @@ impl<M: Read + EncodeSize + Drop, K: Disk> Books<M, K> {
         ensures device { IsErrOf result PairFault.Device → HasFailed K.Disk (disks_of self.old) (disks_of self.new) }
         ensures no_device { IfErr result (λ fault. fault ≢ Device → HasNotFailed K.Disk (disks_of self.old) (disks_of self.new)) }
         ensures no_fault { OnOk result (HasNotFailed K.Disk (disks_of self.old) (disks_of self.new)) }
+        ensures closed { IsErrOf result PairFault.Device → has_failed self.new ≡ true }
+        ensures unchanged { IfErr result (λ fault. fault ≢ Device → self.new ≡ self.old) }
+        ensures too_long { IsErrOf result PairFault.TooLong → IsTooLongFor self.old (length (M.spelling message.now)) }
+        ensures refused_if_long { has_failed self.old ≡ false
+            → IsTooLongFor self.old (length (M.spelling message.now))
+            → IsErrOf result PairFault.TooLong }
         ensures failed { IsErrOf result PairFault.Failed → has_failed self.old ≡ true }
+        ensures refused_if_failed { has_failed self.old ≡ true → IsErrOf result PairFault.Failed }
         ensures faults { IfErr result (λ fault. (fault ≡ Device) ⊎ ((fault ≡ Memory) ⊎ ((fault ≡ TooLong) ⊎ (fault ≡ Failed)))) }
     {
         match self {
@@ -87,8 +95,27 @@ impl<M: Read + EncodeSize + Drop, K: Disk> Books<M, K> {
         ensures stays_open { OnOk result (has_failed self.new ≡ false) }
         ensures device { IsErrOf result PairFault.Device → HasFailed K.Disk (disks_of self.old) (disks_of self.new) }
         ensures no_fault { OnOk result (HasNotFailed K.Disk (disks_of self.old) (disks_of self.new)) }
+        ensures closed { IsErrOf result PairFault.Device → has_failed self.new ≡ true }
         ensures unchanged { IfErr result (λ fault. fault ≢ Device → self.new ≡ self.old) }
+        ensures next { OnOk result (generation_of self.new ≡ generation_of self.old + 1) }
+        ensures readable { OnOk result (All M.fits list.now) }
+        ensures short { OnOk result (IsShortList M.spelling list.now) }
         ensures over_one { are_two (disks_of self.old) ≡ false → IsErrOf result PairFault.Exhausted }
+        ensures failed { IsErrOf result PairFault.Failed → has_failed self.old ≡ true }
+        ensures refused_if_failed { are_two (disks_of self.old) ≡ true → has_failed self.old ≡ true → IsErrOf result PairFault.Failed }
+        ensures exhausted { IsErrOf result PairFault.Exhausted → are_two (disks_of self.old) ≡ true → generation_of self.old ≡ 2 ^ 32 - 1 }
+        ensures refused_if_exhausted { are_two (disks_of self.old) ≡ true
+            → has_failed self.old ≡ false
+            → generation_of self.old ≡ 2 ^ 32 - 1
+            → IsErrOf result PairFault.Exhausted }
+        ensures too_long { IsErrOf result PairFault.TooLong → IsShortList M.spelling list.now → ⊥ }
+        ensures refused_if_long { are_two (disks_of self.old) ≡ true
+            → has_failed self.old ≡ false
+            → generation_of self.old < 2 ^ 32 - 1
+            → (IsShortList M.spelling list.now → ⊥)
+            → IsErrOf result PairFault.TooLong }
+        ensures faults { IfErr result
+            (λ fault. (fault ≡ Device) ⊎ ((fault ≡ Memory) ⊎ ((fault ≡ TooLong) ⊎ ((fault ≡ Failed) ⊎ (fault ≡ Exhausted))))) }
     {
         match self {
             Books::One(_) => Err(PairFault::Exhausted),

@@ -1,13 +1,29 @@
 //! A member of a world.
 
+ghost use Rattle.std.specs.Prelude.{◌≡◌, None, Some};
+
 use crate::liar::Liar;
+use crate::patience::{Patience, earlier, has_come};
 use crate::seat::Seat;
 use std::alloc::{AllocError, Global};
 use std::cell::Cell;
 use std::rc::Rc;
 use test_words::{Committee, Trouble};
 use types_core::{Participant, Sha256Digest};
-use world_network::{Broken, Crash, Fuse, NO_FUSE, Scenario};
+use world_network::{Broken, Crash, Down, Fuse, NO_FUSE, Scenario};
+
+/// What comes next to a member, where nothing comes to it from others.
+#[derive(Clone, Copy)]
+pub enum Turn {
+    /// It is killed.
+    Killed,
+    /// Its host closes the node and opens the record again.
+    Reopened,
+    /// Its node is told the moment.
+    Woken,
+    /// Its record is opened.
+    Opened,
+}
 
 /// A member.
 #[derive(Drop)]
@@ -20,7 +36,7 @@ pub struct Member<S: Committee, M: Seat<S>> {
     pub liar: Option<Liar<S>>,
     /// How often it was opened.
     pub life: u64,
-    /// When it is woken, or opened again.
+    /// When its node is woken, or opened again.
     pub due: Option<u64>,
     /// The view that it was seen in last.
     pub view: u64,
@@ -37,6 +53,10 @@ pub struct Member<S: Committee, M: Seat<S>> {
     crashes: Vec<Crash>,
     /// How long it will be down at the crash that is set.
     down: u64,
+    /// The times to come in which it is dead, the next one last.
+    downs: Vec<Down>,
+    /// How long its host waits for a view.
+    patience: Patience,
 }
 
 impl<S: Committee, M: Seat<S>> Member<S, M> {
@@ -67,11 +87,15 @@ impl<S: Committee, M: Seat<S>> Member<S, M> {
             told: 0,
             crashes: Vec::new(alloc),
             down: 0,
+            downs: Vec::new(alloc),
+            patience: Patience::new(None),
         }
     }
 
-    /// Sets up how it lies, and when it crashes.
+    /// Sets up how it lies, when it crashes or is dead, and how long its host waits.
     fn set_up(&mut self, alloc: Global, scenario: &Scenario) -> Result<(), Broken> {
+        self.patience = Patience::new(scenario.reopen);
+        self.downs = downs_of(alloc, scenario, self.index)?;
         self.crashes = crashes_of(alloc, scenario, self.index)?;
         self.liar = liar_of(alloc, scenario, self.index)?;
         Ok(())
@@ -107,6 +131,90 @@ impl<S: Committee, M: Seat<S>> Member<S, M> {
         self.life = self.life.saturating_add(1);
         self.blocked.clear();
         self.told = now;
+        self.patience.begin(now);
+    }
+
+    /// When something comes to it next that nobody sends.
+    pub fn next_due(&self) -> Option<u64> {
+        let own = earlier(self.due, self.stuck_at());
+        earlier(own, self.killed_at())
+    }
+
+    /// What comes to it at this moment: that it is killed before all else, and that it is given up before it is told the moment.
+    pub fn turn(&self, now: u64) -> Turn {
+        if self.is_killed_by(now) {
+            return Turn::Killed;
+        }
+        if has_come(self.stuck_at(), now) {
+            return Turn::Reopened;
+        }
+        if self.seat.is_up() {
+            Turn::Woken
+        } else {
+            Turn::Opened
+        }
+    }
+
+    /// Whether the next time in which it is dead has begun.
+    pub fn is_killed_by(&self, now: u64) -> bool {
+        has_come(self.killed_at(), now)
+    }
+
+    /// When it is killed next, if it is.
+    fn killed_at(&self) -> Option<u64> {
+        match self.downs.last() {
+            Some(down) => Some(down.from),
+            None => None,
+        }
+    }
+
+    /// When its host gives its node up, where it is correct, is up, and enters no view before.
+    fn stuck_at(&self) -> Option<u64> {
+        if self.liar.is_some() || !self.seat.is_up() {
+            return None;
+        }
+        self.patience.end()
+    }
+
+    /// It is dead from now on, and its disk stays as it is. When it is opened again: where it was down already, not before it would
+    /// have been.
+    pub fn kill(&mut self) -> u64
+        ensures { self.new.due ≡ Some result }
+    {
+        let until = match self.downs.pop() {
+            Some(down) => down.until,
+            None => 0,
+        };
+        let due = until.max(self.opened_at());
+        self.seat.close();
+        self.patience.forget();
+        self.due = Some(due);
+        due
+    }
+
+    /// When it would be opened again, where it is down, or 0.
+    fn opened_at(&self) -> u64 {
+        if self.seat.is_up() {
+            return 0;
+        }
+        self.due.unwrap_or(0)
+    }
+
+    /// Its host closes the node, which entered no view for so long as is answered. The record is to be opened.
+    pub fn close(&mut self) -> u64
+        ensures { self.new.due ≡ None }
+    {
+        self.seat.close();
+        self.due = None;
+        self.patience.give_up(self.view)
+    }
+
+    /// Whether the end of a run that ends at this moment at last is to wait for it: it is correct, and isn't down for longer.
+    pub fn is_awaited(&self, end: u64) -> bool {
+        if self.liar.is_some() {
+            return false;
+        }
+        self.seat.is_up() || self.due.unwrap_or(0) <= end
     }
 
     /// Whether the moment is to be told before anything else, where that is done so often; from now on it then counts as told.
@@ -118,19 +226,21 @@ impl<S: Committee, M: Seat<S>> Member<S, M> {
         is_behind
     }
 
-    /// It is down, and is opened again after a while. How many bytes its disk has.
+    /// It crashed, and is opened again after a while. How many bytes its disk has.
     pub fn go_down(&mut self, now: u64) -> usize {
         self.due = Some(now.saturating_add(self.down));
+        self.patience.forget();
         self.seat.go_down()
     }
 
-    /// Whether it is seen in a view in which it wasn't seen last.
-    pub fn enters(&mut self) -> Option<u64> {
+    /// Whether it is seen now in a view in which it wasn't seen last.
+    pub fn enters(&mut self, now: u64) -> Option<u64> {
         let view = self.seat.current_view();
         if view == self.view {
             return None;
         }
         self.view = view;
+        self.patience.begin(now);
         self.set_crash();
         Some(view)
     }
@@ -188,6 +298,17 @@ fn crashes_of(alloc: Global, scenario: &Scenario, index: u32) -> Result<Vec<Cras
         }
     }
     Ok(crashes)
+}
+
+/// The times in which a member is dead, the first one last.
+fn downs_of(alloc: Global, scenario: &Scenario, index: u32) -> Result<Vec<Down>, AllocError> {
+    let mut downs = Vec::new(alloc);
+    for down in scenario.downs.iter().rev() {
+        if down.member == index {
+            downs.push(*down)?;
+        }
+    }
+    Ok(downs)
 }
 
 /// The liar that a member is, if it is one.

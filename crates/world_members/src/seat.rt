@@ -42,6 +42,9 @@ pub trait Seat<S: Committee>: Drop {
     /// Takes an event, where it is up.
     fn step(&mut self, event: Event<Sha256Digest>) -> Result<Reply<S, Sha256Digest>, Halt>;
 
+    /// Its node is closed, if it is up. What its disk holds stays, and so does how many calls that lets through.
+    fn close(&mut self);
+
     /// It is down from now on, and its disk lets all calls through again. How many bytes that has.
     fn go_down(&mut self) -> usize;
 

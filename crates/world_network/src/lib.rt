@@ -17,5 +17,5 @@ pub use disk::{Fuse, NO_FUSE, TornDisk};
 pub use network::{Arrival, Network, Packet};
 pub use payloads::{Built, Ground, Payloads, genesis, number_of};
 pub use refusal::Refusal;
-pub use scenario::{Crash, Cut, Detail, Scenario, Span, Times, Ways};
+pub use scenario::{Crash, Cut, Detail, Down, Scenario, Span, Times, Ways};
 pub use teller::Teller;

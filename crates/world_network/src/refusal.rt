@@ -29,6 +29,10 @@ pub enum Refusal {
     TooLarge,
     /// More views of a term are optimistic than may be.
     Optimistic,
+    /// The time ends no later than it begins.
+    NotLater,
+    /// The time of a member begins before the one before has ended.
+    StillDown,
     /// No node can be set up so.
     Times,
     /// The line's bytes aren't UTF-8.
@@ -53,6 +57,8 @@ impl Refusal {
             Refusal::Zero => "the number has to be above 0",
             Refusal::TooLarge => "the number is above 1000000000",
             Refusal::Optimistic => "at most 1000 views of a term are optimistic",
+            Refusal::NotLater => "the end has to be later than the beginning",
+            Refusal::StillDown => "the member is still down then by a line before",
             Refusal::Times => "no node can be set up with these times",
             Refusal::NoText => "the line is not UTF-8",
             Refusal::Memory => "memory ran out",

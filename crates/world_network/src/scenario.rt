@@ -1,5 +1,8 @@
 //! What is to happen: the lines of a scenario.
 
+ghost use Rattle.std.specs.Prelude.{◌≡◌, ◌≤◌, ◌<◌, Err, IfOk, is_ok, true};
+ghost use Rattle.world_network.specs.declared.refusal.Refusal.TheVariants.{NotLater, StillDown};
+
 use crate::refusal::Refusal;
 use std::alloc::Global;
 use test_words::Words;
@@ -89,6 +92,17 @@ pub struct Crash {
     pub down: u64,
 }
 
+/// A time in which a member is dead, as one that was killed: what its disk holds stays.
+#[derive(Clone, Copy)]
+pub struct Down {
+    /// The member.
+    pub member: u32,
+    /// When it is killed, in milliseconds.
+    pub from: u64,
+    /// When it is opened again, which is later.
+    pub until: u64,
+}
+
 /// A time in which some members and the others don't hear each other, unless one of the two lies.
 #[derive(Drop)]
 pub struct Cut {
@@ -172,6 +186,10 @@ pub struct Scenario {
     pub crashes: Vec<Crash>,
     /// The cuts.
     pub cuts: Vec<Cut>,
+    /// The times in which members are dead: those of one in their order, none of which begins before the one before has ended.
+    pub downs: Vec<Down>,
+    /// For how many milliseconds a correct member may enter no view before its host closes the node and opens it again, if it does.
+    pub reopen: Option<u64>,
     /// Whether lines are written as JSON.
     pub json: bool,
     /// Which lines are written.
@@ -196,6 +214,8 @@ impl Scenario {
             liars: Vec::new(alloc),
             crashes: Vec::new(alloc),
             cuts: Vec::new(alloc),
+            downs: Vec::new(alloc),
+            reopen: None,
             json,
             detail: Detail::All,
         }
@@ -287,8 +307,18 @@ impl Scenario {
             }
             "skip" => self.times.skip = Some(above_zero(words)?),
             "keep" => self.times.retention = above_zero(words)?,
+            _ => return self.set_lives(name, words),
+        }
+        Ok(())
+    }
+
+    /// A line on the lives of members.
+    fn set_lives(&mut self, name: &str, words: &mut Words<'_>) -> Result<(), Refusal> {
+        match name {
             "lie" => return self.add_liar(words),
             "crash" => return self.add_crash(words),
+            "down" => return self.add_down(words),
+            "reopen" => self.reopen = Some(above_zero(words)?),
             _ => return Err(Refusal::UnknownLine),
         }
         Ok(())
@@ -300,11 +330,17 @@ impl Scenario {
         if members == 0 || members > MOST_MEMBERS {
             return Err(Refusal::Committee);
         }
-        if !self.liars.is_empty() || !self.crashes.is_empty() || !self.cuts.is_empty() {
+        if self.names_members() {
             return Err(Refusal::NamedBefore);
         }
         self.members = members as u32;
         Ok(())
+    }
+
+    /// Whether a line named members.
+    fn names_members(&self) -> bool {
+        let is_besides = !self.cuts.is_empty() || !self.downs.is_empty();
+        is_besides || !self.liars.is_empty() || !self.crashes.is_empty()
     }
 
     /// The next word as a member.
@@ -353,6 +389,26 @@ impl Scenario {
         Ok(())
     }
 
+    /// `down MEMBER FROM UNTIL`.
+    fn add_down(&mut self, words: &mut Words<'_>) -> Result<(), Refusal> {
+        let member = self.member(words)?;
+        let from = number_of(words)?;
+        let until = number_of(words)?;
+        let down = down_of(member, from, until, self.is_down_until(member))?;
+        self.downs.push(down)?;
+        Ok(())
+    }
+
+    /// Until when a member is down by the lines before, or 0.
+    fn is_down_until(&self, member: u32) -> u64 {
+        for down in self.downs.iter().rev() {
+            if down.member == member {
+                return down.until;
+            }
+        }
+        0
+    }
+
     /// `cut FROM UNTIL MEMBERS`.
     fn add_cut(&mut self, alloc: Global, words: &mut Words<'_>) -> Result<(), Refusal> {
         let from = number_of(words)?;
@@ -391,6 +447,26 @@ const TIMES: Times = Times {
     skip: None,
     retention: 10,
 };
+
+/// A time of a member, where it ends behind its beginning, and that isn't before the end of the one before.
+fn down_of(member: u32, from: u64, until: u64, before: u64) -> Result<Down, Refusal>
+    ensures taken { from < until → before ≤ from → is_ok result ≡ true }
+    ensures down { IfOk result (λ d. (d.member ≡ member) × ((d.from ≡ from) × (d.until ≡ until))) }
+    ensures early { until ≤ from → result ≡ Err NotLater }
+    ensures still { from < until → from < before → result ≡ Err StillDown }
+{
+    if until <= from {
+        return Err(Refusal::NotLater);
+    }
+    if from < before {
+        return Err(Refusal::StillDown);
+    }
+    Ok(Down {
+        member,
+        from,
+        until,
+    })
+}
 
 /// The next word as a number up to the most.
 fn number_of(words: &mut Words<'_>) -> Result<u64, Refusal> {

@@ -107,6 +107,25 @@ impl Chronicle {
         self.tell_number(member, "crashed", "bytes", bytes)
     }
 
+    /// A member is dead from now on, and is opened again at that moment.
+    pub fn tell_down(&mut self, member: u32, until: u64) -> Result<(), AllocError> {
+        if !self.teller.tells_some() {
+            return Ok(());
+        }
+        self.tell_number(member, "down", "until", until)
+    }
+
+    /// A member's host closed its node, which stood in this view, and had entered none for so long.
+    pub fn tell_closed(&mut self, member: u32, view: u64, waited: u64) -> Result<(), AllocError> {
+        if !self.teller.tells_some() {
+            return Ok(());
+        }
+        self.begin(member, "closed")?;
+        self.teller.number("view", view)?;
+        self.teller.number("waited", waited)?;
+        self.teller.end()
+    }
+
     /// A member blocked another.
     pub fn tell_blocked(&mut self, member: u32, other: u32) -> Result<(), AllocError> {
         if !self.teller.tells_some() {

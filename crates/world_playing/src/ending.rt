@@ -51,11 +51,11 @@ impl<S: Committee, M: Seat<S>> World<S, M> {
         }
     }
 
-    /// The least view that a correct member has finalized.
+    /// The least view that a member has finalized that is waited for.
     fn reached(&self) -> u64 {
         let mut least = u64::MAX;
         for member in &self.members {
-            if member.liar.is_none() {
+            if member.is_awaited(self.scenario.until) {
                 least = least.min(member.seat.last_finalized());
             }
         }

@@ -27,7 +27,7 @@ pub struct Standing {
 /// The sums of a run.
 #[derive(Clone, Copy)]
 pub struct Sums {
-    /// The least view that a correct member has finalized.
+    /// The least view that a correct member has finalized, of those that aren't down past the run's end.
     pub reached: u64,
     /// How many proposals the chain of what is final has.
     pub chain: u64,

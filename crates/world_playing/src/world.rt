@@ -8,7 +8,7 @@ use std::io::Write;
 use test_schemes::Chance;
 use test_words::Committee;
 use types_core::Sha256Digest;
-use world_members::{Halt, Member, Seat};
+use world_members::{Halt, Member, Seat, Turn};
 use world_network::{Broken, Chain, Network, Payloads, Scenario};
 
 /// The most events of a run.
@@ -105,18 +105,30 @@ impl<S: Committee, M: Seat<S>> World<S, M> {
         Ok(status)
     }
 
-    /// Opens each member for the first time.
+    /// Opens each member for the first time, but those that are dead from the beginning.
     fn open_all(&mut self) -> Result<(), Broken> {
         for place in 0..self.members.len() {
-            self.open(place)?;
+            if self.is_killed(place) {
+                self.kill(place)?;
+            } else {
+                self.open(place)?;
+            }
         }
         Ok(())
     }
 
-    /// Whether each correct member is up and has finalized what it is to.
+    /// Whether a member is to be killed at this moment.
+    fn is_killed(&self, place: usize) -> bool {
+        match self.members.get(place) {
+            Some(member) => member.is_killed_by(self.chronicle.now),
+            None => false,
+        }
+    }
+
+    /// Whether each member that is waited for is up and has finalized what it is to.
     fn is_done(&self) -> bool {
         for member in &self.members {
-            if member.liar.is_none() {
+            if member.is_awaited(self.scenario.until) {
                 let seat = &member.seat;
                 if !seat.is_up() || seat.last_finalized() < self.scenario.views {
                     return false;
@@ -126,11 +138,11 @@ impl<S: Committee, M: Seat<S>> World<S, M> {
         true
     }
 
-    /// The member that is to be woken or opened first, and when.
+    /// The member to which something comes first that nobody sends, and when.
     fn first_due(&self) -> Option<(u64, usize)> {
         let mut first: Option<(u64, usize)> = None;
         for (place, member) in self.members.iter().enumerate() {
-            if let Some(due) = member.due {
+            if let Some(due) = member.next_due() {
                 let is_first = match first {
                     Some((earliest, _)) => due < earliest,
                     None => true,
@@ -143,7 +155,7 @@ impl<S: Committee, M: Seat<S>> World<S, M> {
         first
     }
 
-    /// The member that is to be woken or opened before anything comes, and when.
+    /// The same, where that is before anything is received.
     fn woken_next(&self) -> Option<(u64, usize)> {
         let (moment, place) = self.first_due()?;
         match self.network.next_moment() {
@@ -169,23 +181,58 @@ impl<S: Committee, M: Seat<S>> World<S, M> {
         true
     }
 
-    /// Wakes a member, or opens it again.
+    /// Does what comes to a member then that nobody sends.
     fn wake(&mut self, place: usize, moment: u64) -> Result<bool, Broken> {
         if !self.comes_to(moment) {
             return Ok(false);
         }
         let now = self.chronicle.now;
-        let Some(member) = self.members.get_mut(place) else {
+        let Some(member) = self.members.get(place) else {
             return Ok(false);
         };
-        member.due = None;
-        let _ = member.wants_moment(now, 0);
-        if member.seat.is_up() {
-            self.step(place, Event::Moment(now))?;
-        } else {
-            self.open(place)?;
+        match member.turn(now) {
+            Turn::Killed => self.kill(place)?,
+            Turn::Reopened => self.reopen(place)?,
+            Turn::Woken => self.ring(place, now)?,
+            Turn::Opened => self.open_due(place)?,
         }
         Ok(true)
+    }
+
+    /// Tells a member the moment, for which it asked.
+    fn ring(&mut self, place: usize, now: u64) -> Result<(), Broken> {
+        if let Some(member) = self.members.get_mut(place) {
+            member.due = None;
+            let _ = member.wants_moment(now, 0);
+        }
+        self.step(place, Event::Moment(now))
+    }
+
+    /// Opens a member again whose time has come.
+    fn open_due(&mut self, place: usize) -> Result<(), Broken> {
+        if let Some(member) = self.members.get_mut(place) {
+            member.due = None;
+        }
+        self.open(place)
+    }
+
+    /// A member is dead from now on.
+    fn kill(&mut self, place: usize) -> Result<(), Broken> {
+        if let Some(member) = self.members.get_mut(place) {
+            let until = member.kill();
+            self.chronicle.tell_down(member.index, until)?;
+        }
+        Ok(())
+    }
+
+    /// A member's host gives its node up, and opens the record again.
+    fn reopen(&mut self, place: usize) -> Result<(), Broken> {
+        if let Some(member) = self.members.get_mut(place) {
+            let waited = member.close();
+            self.chronicle
+                .tell_closed(member.index, member.view, waited)?;
+        }
+        self.open(place)
     }
 
     /// Opens a member, unless it runs no node.
@@ -272,11 +319,12 @@ impl<S: Committee, M: Seat<S>> World<S, M> {
 
     /// Sees whether a member has entered a view.
     fn look_at(&mut self, place: usize) -> Result<(), Broken> {
+        let now = self.chronicle.now;
         let Some(member) = self.members.get_mut(place) else {
             return Ok(());
         };
         let index = member.index;
-        if let Some(view) = member.enters() {
+        if let Some(view) = member.enters(now) {
             self.chronicle.tell_entered(index, view)?;
         }
         Ok(())

@@ -63,8 +63,8 @@ impl<S: Committee, L: Turns<S>, K: Medium> Keeper<S, L, K> {
         }
     }
 
-    /// Closes the node.
-    fn close(&mut self) {
+    /// Closes the node, if it is open.
+    fn close_node(&mut self) {
         if let Some(node) = self.node.take() {
             self.disk = disk_of(node);
         }
@@ -102,8 +102,12 @@ impl<S: Committee, L: Turns<S>, K: Medium> Seat<S> for Keeper<S, L, K> {
         }
     }
 
+    fn close(&mut self) {
+        self.close_node();
+    }
+
     fn go_down(&mut self) -> usize {
-        self.close();
+        self.close_node();
         match &mut self.disk {
             Some(disk) => {
                 disk.mend();

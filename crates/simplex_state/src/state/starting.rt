@@ -12,8 +12,8 @@ use types_terms::Elector;
 use voter_rules::Floor;
 
 impl<S: Scheme<D> + Drop, L: Elector<S, D>, D: Digest> State<S, L, D> {
-    /// Starts on the payload of view 0, or on a proposal that is final already. That one's finalization is answered and counts as handed out, since
-    /// whoever starts the voter reports it.
+    /// Starts on the payload of view 0, or on a proposal that is final already. That one's finalization is answered and counts as
+    /// handed out, since whoever starts the voter reports it.
     ///
     /// # Errors
     ///
