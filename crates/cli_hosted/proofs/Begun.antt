@@ -17,26 +17,18 @@ use Rattle.cli_settings.specs.declared.setting.Committee.{Committee}
 use Rattle.cli_opening.specs.Members.{AreLeaders}
 use Rattle.cli_hosted.specs.HostedDisk.{HostedState}
 use Rattle.cli_hosted.specs.Hosting.{IsBegun, over}
-use Rattle.cli_hosted.specs.Sessions.{Listed, PlainReply, SessionState}
-
-abbrev Hosted : Type 0
-Hosted = Node plain.Committee Rotation (List ℕ) HostedState ℕ (List ℕ) Listed
-
--- a state is its node and its replies
-pub same_state : (a b : SessionState) → a.node ≡ b.node → a.replies ≡ b.replies → a ≡ b
-same_state a b node replies =
-    subst (λ (n : Hosted). a ≡ record { node = n; replies = b.replies }) node
-    (subst (λ (r : List ℕ). a ≡ record { node = a.node; replies = r }) replies refl)
+use Rattle.cli_hosted.specs.Sessions.{Hosted, Listed, PlainReply, node_of, replies_of}
+use Rattle.cli_hosted.specs.declared.session.Session.{Session}
 
 module _ (g : Ghosts plain.Committee (List ℕ) ℕ (List ℕ) Listed) (e : elector.Ghosts Rotation plain.Committee (List ℕ) ℕ (List ℕ) Listed) (k : disk.Ghosts HostedState)
     (formats : ℕ → Formats plain.Committee (List ℕ) ℕ (List ℕ) Listed) (w : PlainReply → List ℕ)
     (Readable : Artifact plain.Committee (List ℕ) ℕ (List ℕ) Listed → Type 0) (stored : List ℕ) (on : HostedState) (fresh : on ≡ over stored) where
   -- so the session was begun that has the node, and whose replies are the first alone
-  pub begun_of : {B : Type 0} (session : Result B OpenFault) (value : B → SessionState) (s : Setup plain.Committee (List ℕ) Listed) (opened : Result Hosted OpenFault) (before after : List ℕ)
+  pub begun_of : {B : Type 0} (session : Result B OpenFault) (value : B → Session) (s : Setup plain.Committee (List ℕ) Listed) (opened : Result Hosted OpenFault) (before after : List ℕ)
       → before ≡ []
       → IfOk opened (λ node. (first : PlainReply) × (first.refused ≡ None) × (after ≡ before ++ w first)
       × IsOpenAndSettled g e k (formats (g.size s.voter.scheme)) s Readable (One on) 0 node first.actions.items)
-      → IfOk session (λ b. (opened ≡ Ok (value b).node) × ((value b).replies ≡ after))
+      → IfOk session (λ b. (opened ≡ Ok (node_of (value b))) × (replies_of (value b) ≡ after))
       → IfOk session (λ b. IsBegun g e k formats w Readable s stored (value b))
   begun_of (Err why) value s opened before after none opens has = has
   begun_of (Ok b) value s opened before after none opens (is, same) =
@@ -46,15 +38,15 @@ module _ (g : Ghosts plain.Committee (List ℕ) ℕ (List ℕ) Listed) (e : elec
         first = there.0;
         refused = there.1;
         replied = same ∙ (there.2 ∙ ap (λ (xs : List ℕ). xs ++ w there.0) none);
-        opens = subst (λ (d : HostedState). IsOpenAndSettled g e k (formats (g.size s.voter.scheme)) s Readable (One d) 0 (value b).node there.0.actions.items) fresh there.3;
+        opens = subst (λ (d : HostedState). IsOpenAndSettled g e k (formats (g.size s.voter.scheme)) s Readable (One d) 0 (node_of (value b)) there.0.actions.items) fresh there.3;
       }
 
   -- the same by leaders of a committee
-  pub begun_by_of : {B : Type 0} (session : Result B OpenFault) (value : B → SessionState) (c : Committee) (s : Rotation → Setup plain.Committee (List ℕ) Listed) (opened : Result Hosted OpenFault)
+  pub begun_by_of : {B : Type 0} (session : Result B OpenFault) (value : B → Session) (c : Committee) (s : Rotation → Setup plain.Committee (List ℕ) Listed) (opened : Result Hosted OpenFault)
       (before after : List ℕ) → before ≡ []
       → IfOk opened (λ node. (leaders : Rotation) × (first : PlainReply) × AreLeaders c leaders × (first.refused ≡ None) × (after ≡ before ++ w first)
       × IsOpenAndSettled g e k (formats (g.size (s leaders).voter.scheme)) (s leaders) Readable (One on) 0 node first.actions.items)
-      → IfOk session (λ b. (opened ≡ Ok (value b).node) × ((value b).replies ≡ after))
+      → IfOk session (λ b. (opened ≡ Ok (node_of (value b))) × (replies_of (value b) ≡ after))
       → IfOk session (λ b. (leaders : Rotation) × AreLeaders c leaders × IsBegun g e k formats w Readable (s leaders) stored (value b))
   begun_by_of (Err why) value c s opened before after none opens has = has
   begun_by_of (Ok b) value c s opened before after none opens (is, same) =
@@ -66,6 +58,6 @@ module _ (g : Ghosts plain.Committee (List ℕ) ℕ (List ℕ) Listed) (e : elec
           first = there.1;
           refused = there.3;
           replied = same ∙ (there.4 ∙ ap (λ (xs : List ℕ). xs ++ w there.1) none);
-          opens = subst (λ (d : HostedState). IsOpenAndSettled g e k (formats (g.size (s there.0).voter.scheme)) (s there.0) Readable (One d) 0 (value b).node there.1.actions.items) fresh there.5;
+          opens = subst (λ (d : HostedState). IsOpenAndSettled g e k (formats (g.size (s there.0).voter.scheme)) (s there.0) Readable (One d) 0 (node_of (value b)) there.1.actions.items) fresh there.5;
         },
       )

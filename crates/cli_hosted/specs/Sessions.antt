@@ -6,6 +6,7 @@ use Rattle.simplex_types.specs.Plain.{Committee}
 use Rattle.simplex_member.specs.declared.action.Reply.{Reply}
 use Rattle.node_steps.specs.declared.node.Node.{Node}
 use Rattle.cli_hosted.specs.HostedDisk.{HostedState}
+use Rattle.cli_hosted.specs.declared.session.Session.{Session}
 
 -- certificates of the plain scheme
 abbrev pub Listed : Type 0
@@ -15,7 +16,14 @@ Listed = List (Attestation (List ℕ))
 abbrev pub PlainReply : Type 0
 PlainReply = Reply Committee (List ℕ) ℕ (List ℕ) Listed
 
--- the node, and its replies that were not taken yet, one behind another
-pub record SessionState : Type 0 where
-  pub node : Node Committee Rotation (List ℕ) HostedState ℕ (List ℕ) Listed
-  pub replies : List ℕ
+-- a node of it
+abbrev pub Hosted : Type 0
+Hosted = Node Committee Rotation (List ℕ) HostedState ℕ (List ℕ) Listed
+
+-- the node
+abbrev pub node_of : Session → Hosted
+node_of state = state.node
+
+-- its replies that were not taken yet, one behind another
+abbrev pub replies_of : Session → List ℕ
+replies_of state = state.replies.items

@@ -2,7 +2,7 @@
 
 ghost use Rattle.std.specs.Prelude.{◌≡◌, IsSome, None, Option, Some};
 ghost use Rattle.std.specs.Coded.{coded_option};
-ghost use Rattle.cli_hosted.specs.Sessions.{SessionState};
+ghost use Rattle.cli_hosted.specs.declared.session.Session.{Session as Kept};
 ghost use Rattle.cli_hosted.specs.contracts.session.Session.{the_row};
 
 use crate::session::Session;
@@ -17,7 +17,7 @@ use std::ptr;
 pub struct Place {
     at: *mut u8,
     alloc: Global,
-    pub ghost held: { Option SessionState } by { coded_option the_row.coded },
+    pub ghost held: { Option Kept } by { coded_option the_row.coded },
 }
 
 impl Model for Place {

@@ -5,7 +5,7 @@ ghost use Rattle.simplex_member.specs.declared.fault.IoFault.{IoFault};
 ghost use Rattle.node_wire.specs.Streaming.{spelled};
 ghost use Rattle.cli_settings.specs.declared.setting.Settings.{Settings};
 ghost use Rattle.cli_hosted.specs.Hosting.{HasAnswered, IsBegunAs, IsBegunBy, IsIn};
-ghost use Rattle.cli_hosted.specs.Sessions.{SessionState};
+ghost use Rattle.cli_hosted.specs.declared.session.Session.{Session};
 
 use crate::disk::HostedDisk;
 use journal_single::Disk;
@@ -18,16 +18,16 @@ use types_terms::elector::RoundRobinElector;
 /// What is promised of a member's node, under the plain scheme and round robin.
 pub trait Promises {
     /// The member of these settings was opened over a record's bytes.
-    ghost begun_by: { Settings → List ℕ → SessionState → Type 0 };
+    ghost begun_by: { Settings → List ℕ → Session → Type 0 };
 
     /// This member of so many, under the program's settings.
-    ghost begun_as: { ℕ → ℕ → List ℕ → SessionState → Type 0 };
+    ghost begun_as: { ℕ → ℕ → List ℕ → Session → Type 0 };
 
     /// The bytes of events came to this.
-    ghost answered: { SessionState → List ℕ → Result ⊤ IoFault → SessionState → Type 0 };
+    ghost answered: { Session → List ℕ → Result ⊤ IoFault → Session → Type 0 };
 
     /// The view that the node is in, and the last that is final.
-    ghost is_in: { SessionState → ℕ → ℕ → Type 0 };
+    ghost is_in: { Session → ℕ → ℕ → Type 0 };
 }
 
 /// Who promises it.

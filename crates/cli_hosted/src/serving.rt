@@ -10,7 +10,8 @@ ghost use Rattle.cli_hosted.specs.Held.{held_by};
 ghost use Rattle.cli_calls.specs.Told.{IsPut, Names};
 ghost use Rattle.cli_hosted.specs.Statuses.{status_number};
 ghost use Rattle.cli_hosted.specs.Serving.{IsLookedAt, IsLookedAtBy, IsTornAt, IsTornBy, barred_place, barred_status, ending_status, run_place, run_status, unopened_place, unopened_status, unstepped_status};
-ghost use Rattle.cli_hosted.specs.Sessions.{SessionState};
+ghost use Rattle.cli_hosted.specs.Sessions.{node_of, replies_of};
+ghost use Rattle.cli_hosted.specs.declared.session.Session.{Session as Kept};
 ghost use Rattle.cli_hosted.specs.declared.status.Status.TheVariants.{Argument, Device, Done, Foreign, Invalid, NoRecord, Refused, Room, Torn};
 
 use crate::handle::Handle;
@@ -38,7 +39,7 @@ pub fn opened(
 ) -> Status
     requires { member < members }
     ensures begun { result ≡ Done
-        → (state : SessionState) × (held_by node.new ≡ Some state)
+        → (state : Kept) × (held_by node.new ≡ Some state)
         × ⟦<Promised as Promises>⟧.begun_as member members stored.now state }
     ensures opened { result ≡ Done → node.new.live ≡ 1 }
     ensures unopened { result ≢ Done → node.new ≡ node.old }
@@ -67,7 +68,7 @@ pub fn opened_by(
 ) -> Status
     requires { IsGood settings.now }
     ensures begun { result ≡ Done
-        → (state : SessionState) × (held_by node.new ≡ Some state) × ⟦<Promised as Promises>⟧.begun_by settings.now stored.now state }
+        → (state : Kept) × (held_by node.new ≡ Some state) × ⟦<Promised as Promises>⟧.begun_by settings.now stored.now state }
     ensures opened { result ≡ Done → node.new.live ≡ 1 }
     ensures unopened { result ≢ Done → node.new ≡ node.old }
     ensures looked { result ≡ Done → IsLookedAtBy settings.now cuts stored.now }
@@ -147,7 +148,7 @@ fn place_of(why: Barred) -> Option<u64>
 /// Has the node answer events.
 pub fn stepped(alloc: Global, node: &mut Handle, events: &[u8], found: &mut Found) -> Status
     ensures answered { IfSome (held_by node.old) (λ old.
-        (new : SessionState) × (ended : Result ⊤ Ending) × (held_by node.new ≡ Some new)
+        (new : Kept) × (ended : Result ⊤ Ending) × (held_by node.new ≡ Some new)
         × ⟦<Promised as Promises>⟧.answered old events.now ended new × (result ≡ run_status ended)
         × Names found.new.named found.new.place (run_place ended)) }
     ensures dead { node.old.live ≢ 1 → (result ≡ Argument) × (node.new.live ≡ 0) }
@@ -189,10 +190,14 @@ pub fn requests_taken(
 /// Puts the replies at the front of the room, where they fit.
 pub fn replies_taken(alloc: Global, node: &mut Handle, room: &mut [u8], found: &mut Found) -> Status
     ensures taken { IfSome (held_by node.old) (λ old.
-        result ≡ Done → IsPut old.replies room.old room.new × (held_by node.new ≡ Some (record old { replies = [] }))) }
+        result ≡ Done
+        → (left : Kept) × (held_by node.new ≡ Some left) × IsPut (replies_of old) room.old room.new × (node_of left ≡ node_of old)
+        × (replies_of left ≡ [])) }
     ensures no_room { IfSome (held_by node.old) (λ old.
-        result ≢ Done → (length room.old < length old.replies) × (held_by node.new ≡ Some old)) }
-    ensures length { IfSome (held_by node.old) (λ old. found.new.length ≡ length old.replies) }
+        result ≢ Done
+        → (left : Kept) × (held_by node.new ≡ Some left) × (length room.old < length (replies_of old)) × (node_of left ≡ node_of old)
+        × (replies_of left ≡ replies_of old)) }
+    ensures length { IfSome (held_by node.old) (λ old. found.new.length ≡ length (replies_of old)) }
     ensures dead { node.old.live ≢ 1 → (result ≡ Argument) × (node.new.live ≡ 0) }
     ensures live { node.old.live ≡ 1 → node.new.live ≡ 1 }
     ensures answers { (result ≡ Done) ⊎ ((result ≡ Argument) ⊎ (result ≡ Room)) }

@@ -7,7 +7,7 @@ ghost use Rattle.cli_settings.specs.Checking.{IsGood};
 ghost use Rattle.cli_calls.specs.Told.{IsPut};
 ghost use Rattle.cli_hosted.specs.Hosting.{over};
 ghost use Rattle.journal_books.specs.declared.disks.Disks.TheVariants.{One};
-ghost use Rattle.cli_hosted.specs.Sessions.{PlainReply, SessionState};
+ghost use Rattle.cli_hosted.specs.Sessions.{PlainReply};
 ghost use Rattle.simplex_member.specs.declared.action.Reply.{Reply};
 ghost use Rattle.simplex_member.specs.Setup.{setup_of};
 ghost use Rattle.node_steps.specs.Keeps.{AtOwn, has_failed};
@@ -30,7 +30,6 @@ use simplex_member::{IoFault, OpenFault, Reply, Speaks};
 use simplex_node::{open_io, run_io};
 use simplex_types::{AttestationList, PlainKey, PlainScheme, PlainSignature};
 use std::alloc::{AllocError, Global};
-use std::marker::Model;
 use std::mem;
 use std::rc::Rc;
 use types_core::{Digest, Scheme, Sha256Digest, Write};
@@ -58,15 +57,6 @@ impl Drop for Session {
         } = self;
         drop(node.into_disks());
     }
-}
-
-// Of its requests nothing is told: no clause speaks of the list that it shares with the disk.
-impl Model for Session {
-    ghost use Rattle.cli_hosted.specs.Sessions.{PlainReply, SessionState};
-
-    ghost Value = { SessionState };
-
-    ghost view = { λ session. record { node = session.node; replies = session.replies.items } };
 }
 
 impl Session {
@@ -106,7 +96,6 @@ impl Session {
     }
 
     /// Answers events, one behind another; the replies are put behind those that were not taken yet.
-    #[tactic(auto, using(crate::proofs::Begun::same_state))]
     pub(crate) fn step(&mut self, alloc: Global, events: &[u8]) -> Result<(), IoFault>
         ensures { ⟦<Promised as Promises>⟧.answered self.old events.now result self.new }
     {
@@ -120,10 +109,12 @@ impl Session {
 
     /// Takes the replies that wait, where they fit at the front of the room, and tells their size. Whether they fit.
     pub(crate) fn take_replies(&mut self, room: &mut [u8], found: &mut Found) -> bool
-        ensures taken { result ≡ true → IsPut self.old.replies room.old room.new × (self.new ≡ record self.old { replies = [] }) }
+        ensures taken { result ≡ true
+            → IsPut self.old.replies.items room.old room.new × (self.new.node ≡ self.old.node) × (self.new.replies.items ≡ []) }
         ensures no_room { result ≡ false
-            → (length room.old < length self.old.replies) × (room.new ≡ room.old) × (self.new ≡ self.old) }
-        ensures length { found.new.length ≡ length self.old.replies }
+            → (length room.old < length self.old.replies.items) × (room.new ≡ room.old) × (self.new.node ≡ self.old.node)
+            × (self.new.replies.items ≡ self.old.replies.items) }
+        ensures length { found.new.length ≡ length self.old.replies.items }
         ensures unnamed { found.new.named ≡ 0 }
     {
         taken(&mut self.replies, room, found)
@@ -165,7 +156,7 @@ fn held(
     requests: Requests,
     replies: Vec<u8>,
 ) -> Result<Box<Session>, OpenFault>
-    ensures { IfOk result (λ it. node ≡ Ok it.value.node × (it.value.replies ≡ replies.items)) }
+    ensures { IfOk result (λ it. node ≡ Ok it.value.node × (it.value.replies.items ≡ replies.items)) }
 {
     match node {
         Ok(node) => boxed(

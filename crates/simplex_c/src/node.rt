@@ -6,7 +6,8 @@ ghost use Rattle.simplex_member.specs.declared.fault.IoFault.{IoFault};
 ghost use Rattle.cli_calls.specs.Told.{IsPut, Names};
 ghost use Rattle.cli_hosted.specs.Held.{held_by};
 ghost use Rattle.cli_hosted.specs.Serving.{IsLookedAt, IsTornAt, asks, run_place, run_status};
-ghost use Rattle.cli_hosted.specs.Sessions.{SessionState};
+ghost use Rattle.cli_hosted.specs.Sessions.{node_of, replies_of};
+ghost use Rattle.cli_hosted.specs.declared.session.Session.{Session as Kept};
 ghost use Rattle.cli_hosted.specs.Statuses.{status_number};
 
 use cli_calls::Found;
@@ -35,7 +36,7 @@ pub extern "C" fn voumlis_proved_node_open(
     ensures stranger { members ≤ member → result ≡ 2 }
     ensures occupied { node.old.live ≢ 0 → result ≡ 2 }
     ensures begun { result ≡ 0
-        → (state : SessionState) × (held_by node.new ≡ Some state)
+        → (state : Kept) × (held_by node.new ≡ Some state)
         × ⟦<Promised as Promises>⟧.begun_as member members stored.now state }
     ensures opened { result ≡ 0 → node.new.live ≡ 1 }
     ensures unopened { result ≢ 0 → node.new ≡ node.old }
@@ -67,7 +68,7 @@ pub extern "C" fn voumlis_proved_node_step(
     found: &mut Found,
 ) -> u32
     ensures answered { IfSome (held_by node.old) (λ old.
-        (new : SessionState) × (ended : Result ⊤ IoFault) × (held_by node.new ≡ Some new)
+        (new : Kept) × (ended : Result ⊤ IoFault) × (held_by node.new ≡ Some new)
         × ⟦<Promised as Promises>⟧.answered old events.now ended new × (result ≡ status_number (run_status ended))
         × Names found.new.named found.new.place (run_place ended)) }
     ensures dead { node.old.live ≢ 1 → (result ≡ 2) × (node.new.live ≡ 0) }
@@ -110,10 +111,14 @@ pub extern "C" fn voumlis_proved_node_replies(
     found: &mut Found,
 ) -> u32
     ensures taken { IfSome (held_by node.old) (λ old.
-        result ≡ 0 → IsPut old.replies room.old room.new × (held_by node.new ≡ Some (record old { replies = [] }))) }
+        result ≡ 0
+        → (left : Kept) × (held_by node.new ≡ Some left) × IsPut (replies_of old) room.old room.new × (node_of left ≡ node_of old)
+        × (replies_of left ≡ [])) }
     ensures no_room { IfSome (held_by node.old) (λ old.
-        result ≢ 0 → (length room.old < length old.replies) × (held_by node.new ≡ Some old)) }
-    ensures length { IfSome (held_by node.old) (λ old. found.new.length ≡ length old.replies) }
+        result ≢ 0
+        → (left : Kept) × (held_by node.new ≡ Some left) × (length room.old < length (replies_of old)) × (node_of left ≡ node_of old)
+        × (replies_of left ≡ replies_of old)) }
+    ensures length { IfSome (held_by node.old) (λ old. found.new.length ≡ length (replies_of old)) }
     ensures dead { node.old.live ≢ 1 → (result ≡ 2) × (node.new.live ≡ 0) }
     ensures live { node.old.live ≡ 1 → node.new.live ≡ 1 }
     ensures unwritten { result ≢ 0 → room.new ≡ room.old }

@@ -4,7 +4,7 @@ ghost use Rattle.std.specs.Prelude.{◌≡◌, ◌≢◌, ◌⊎◌, ◌≤◌, 
 ghost use Rattle.journal_look.specs.Look.{BeginsLikeOne};
 ghost use Rattle.cli_settings.specs.declared.setting.Settings.{Settings as Setting};
 ghost use Rattle.cli_hosted.specs.Held.{held_by};
-ghost use Rattle.cli_hosted.specs.Sessions.{SessionState};
+ghost use Rattle.cli_hosted.specs.declared.session.Session.{Session as Kept};
 ghost use Rattle.cli_hosted.specs.Serving.{IsLookedAtBy, IsTornBy, asks};
 ghost use Rattle.cli_hosted.specs.Statuses.{status_number};
 ghost use Rattle.cli_hosted.specs.declared.status.Status.TheVariants.{Argument, Device, Done, Foreign, Memory, NoRecord, Refused, Settings as Faulty, Torn, Version};
@@ -55,7 +55,7 @@ fn opened(
 ) -> Status
     ensures begun { result ≡ Done
         → (s : Setting) × SaysGood numbers.now base.now seed.now s
-        × ((state : SessionState) × (held_by node.new ≡ Some state) × ⟦<Promised as Promises>⟧.begun_by s stored.now state) }
+        × ((state : Kept) × (held_by node.new ≡ Some state) × ⟦<Promised as Promises>⟧.begun_by s stored.now state) }
     ensures opened { result ≡ Done → node.new.live ≡ 1 }
     ensures unopened { result ≢ Done → node.new ≡ node.old }
     ensures looked { result ≡ Done → (s : Setting) × SaysGood numbers.now base.now seed.now s × IsLookedAtBy s cuts stored.now }
@@ -115,7 +115,7 @@ pub extern "C" fn voumlis_proved_node_open_with(
     ensures occupied { node.old.live ≢ 0 → result ≡ 2 }
     ensures begun { result ≡ 0
         → (s : Setting) × SaysGood numbers.now base.now seed.now s
-        × ((state : SessionState) × (held_by node.new ≡ Some state) × ⟦<Promised as Promises>⟧.begun_by s stored.now state) }
+        × ((state : Kept) × (held_by node.new ≡ Some state) × ⟦<Promised as Promises>⟧.begun_by s stored.now state) }
     ensures opened { result ≡ 0 → node.new.live ≡ 1 }
     ensures unopened { result ≢ 0 → node.new ≡ node.old }
     ensures looked { result ≡ 0
