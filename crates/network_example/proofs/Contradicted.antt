@@ -1,6 +1,6 @@
 -- The example of contradictory certificates: the member's lives, and what it reported.
 use Rattle.std.proofs.Common.{◌≡◌, ◌⊎◌, inl, inr, ⊎_elim, ℕ, ◌<◌, ◌≤◌, ◌+◌, ◌^◌, ◌==◌, Bool, true, false, List, [], ◌∷◌, ◌++◌, Option, Some, None, refl, sym, ◌∙◌, ap, subst, arith}
-use Rattle.std.specs.Prelude.{All, Contains, if◌then◌else◌, nat_lt, unwrap_or, ⊤}
+use Rattle.std.specs.Prelude.{All, Contains, if◌then◌else◌, nat_lt, option_map, unwrap_or, ⊤}
 use Rattle.std.specs.declared.cmp.Ordering.{Ordering}
 use Rattle.std.proofs.lemmas.Bool.{both_ways, cases_lt, eqb-true}
 use Rattle.std.proofs.lemmas.List.Elements.{All-cons, All-contains, All-nil}
@@ -53,19 +53,51 @@ use Rattle.network_example.proofs.Stir.{IsStir, NamesOnes, stir-leads, stir-mild
 none-some : {X : Type 0} (x : X) → None ≡ Some x → ⊥
 none-some x e = cc e
 
-some-is : {X : Type 0} (x y : X) → Some x ≡ Some y → x ≡ y
+pub some-is : {X : Type 0} (x y : X) → Some x ≡ Some y → x ≡ y
 some-is x y e = cc e
 
 -- when something is to happen, if anything
-abbrev moment_of : Option (ℕ × TimeoutReason) → ℕ
+abbrev pub moment_of : Option (ℕ × TimeoutReason) → ℕ
 moment_of None = 0
 moment_of (Some x) = x.0
+
+pub above-third : (view : ℕ) → 3 ≤ view → 2 < view
+above-third view from = omega (arith, from)
+
+pub apart : (a b view : ℕ) → a < b → (b == view) ≡ true → (a == view) ≡ true → ⊥
+apart a b view less is also = let p = eqb-true b view is in let q = eqb-true a view also in omega (arith, p, q, less)
+
+pub two-three : 2 < 3
+two-three = omega arith
+
+pub one-three : 1 < 3
+one-three = omega arith
+
+pub one-two : 1 < 2
+one-two = omega arith
+
+-- of four all but the first are excused
+pub first-alone : (i : ℕ) → i < 4 → (Contains (1 ∷ 2 ∷ 3 ∷ []) i → ⊥) → i ≡ 0
+first-alone i lt out = ⊎_elim (λ low. omega (arith, low)) (λ high. absurd (out (among i high lt))) (cases_lt i 1)
+  where
+    among : (i : ℕ) → 1 ≤ i → i < 4 → Contains (1 ∷ 2 ∷ 3 ∷ []) i
+    among i high lt = ⊎_elim
+        (λ two. (0, omega arith, omega (arith, high, two)))
+        (λ more. ⊎_elim
+        (λ three. (1, omega arith, omega (arith, more, three)))
+        (λ most. (2, omega arith, omega (arith, most, lt)))
+        (cases_lt i 3))
+        (cases_lt i 2)
+
+pub not-excused : Contains {X = ℕ} (1 ∷ 2 ∷ 3 ∷ []) 0 → ⊥
+not-excused here = ⊎_elim (λ is. omega (arith, is)) (λ later. ⊎_elim (λ is. omega (arith, is)) (λ last. ⊎_elim (λ is. omega (arith, is)) (λ none. Contains-nil {X = ℕ} 0 none) (Contains-cases {X = ℕ} 3 [] 0 last)) (Contains-cases {X = ℕ} 2 (3 ∷ []) 0 later))
+    (Contains-cases {X = ℕ} 1 (2 ∷ 3 ∷ []) 0 here)
 
 abbrev is_there : {X : Type 0} → List X → Bool
 is_there [] = false
 is_there (x ∷ xs) = true
 
-some-points : {X : Type 0} (x : X) (xs : List X) → (x ∷ xs ≡ [] → ⊥)
+pub some-points : {X : Type 0} (x : X) (xs : List X) → (x ∷ xs ≡ [] → ⊥)
 some-points x xs e = both_ways true (ap is_there e) refl
 
 le-up-to : (n : ℕ) → 0 ≤ n
@@ -96,7 +128,7 @@ fourth-of-five = omega arith
 abbrev First : ℕ → Type 0
 First view = 1 ≡ view
 
-abbrev FirstOrThird : ℕ → Type 0
+abbrev pub FirstOrThird : ℕ → Type 0
 FirstOrThird view = (1 ≡ view) ⊎ (3 ≡ view)
 
 module _ {S D P G C : Type 0} (c d : Certificate S D P G C) where
@@ -217,7 +249,7 @@ module _ {S D P G C : Type 0} (g : Ghosts S D P G C) (f : Formats S D P G C) (x 
       settled = settled;
     }
 
-    nothing-due : NoneDue g f s h
+    pub nothing-due : NoneDue g f s h
     nothing-due = still g f s refl refl h is-still
 
   settles-early : (h : History S D P G C) → repair_of f h ≡ Replayed ∷ [] → (view : ℕ) → IsOutstanding 1 (repair_of f h) view → ⊥
@@ -241,9 +273,6 @@ module _ {S D P G C : Type 0} (g : Ghosts S D P G C) (f : Formats S D P G C) (x 
   above-first : (view : ℕ) → 1 ≤ view → 0 < view
   above-first view from = omega (arith, from)
 
-  above-third : (view : ℕ) → 3 ≤ view → 2 < view
-  above-third view from = omega (arith, from)
-
   none-first : NoneDue g f s h1
   none-first = nothing-due First h1 tt above-first (refl, tt)
       (λ view one. subst (λ (w : ℕ). leader_of (votes_of s h1 w) ≡ Some 3) one refl)
@@ -257,18 +286,6 @@ module _ {S D P G C : Type 0} (g : Ghosts S D P G C) (f : Formats S D P G C) (x 
       (λ Q none led one two view. votes-one z n Q none led (nat_lt view (floor_of s h2)) (1 == view))
       (λ due. let e : 1500 ≡ due.moment = ap moment_of due.next in let r : due.moment ≤ 1200 = due.reached in omega (arith, e, r))
       (λ e. absurd (both_ways false refl e)) (λ number. refl) (settles-early h2 refl)
-
-  apart : (a b view : ℕ) → a < b → (b == view) ≡ true → (a == view) ≡ true → ⊥
-  apart a b view less is also = let p = eqb-true b view is in let q = eqb-true a view also in omega (arith, p, q, less)
-
-  two-three : 2 < 3
-  two-three = omega arith
-
-  one-three : 1 < 3
-  one-three = omega arith
-
-  one-two : 1 < 2
-  one-two = omega arith
 
   none-third : NoneDue g f s h3
   none-third = nothing-due FirstOrThird h3 tt above-third (inr refl, (inl refl, tt))
@@ -292,7 +309,7 @@ module _ {S D P G C : Type 0} (g : Ghosts S D P G C) (f : Formats S D P G C) (x 
 
   -- ---- from point to point
 
-  in-time : (now : ℕ) → now + 2000 < 2 ^ 64 → IsInTime s now
+  pub in-time : (now : ℕ) → now + 2000 < 2 ^ 64 → IsInTime s now
   in-time now early = early
 
   no-acts : AreActs {S = S} {D = D} {P = P} {G = G} {C = C} []
@@ -301,7 +318,7 @@ module _ {S D P G C : Type 0} (g : Ghosts S D P G C) (f : Formats S D P G C) (x 
   one-act : (p : Point S D P G C) → is_act p ≡ true → AreActs (p ∷ [])
   one-act p is = All-cons (λ (q : Point S D P G C). is_act q ≡ true) p [] is no-acts
 
-  may-finalize : Fits {S = S} {D = D} {P = P} {G = G} {C = C} (g.attests x.own) (g.certifies x.own) (owner_of s) [] (artifact.Finalization (finalization x))
+  pub may-finalize : Fits {S = S} {D = D} {P = P} {G = G} {C = C} (g.attests x.own) (g.certifies x.own) (owner_of s) [] (artifact.Finalization (finalization x))
   may-finalize = record {
     verifies = record { epoch = refl; verifies = finalized };
     follows = record { from_one = from-one; room = has-room; parent_below = below-two; first = λ t alike taken. Contains-nil (recorded.taken t) taken };
@@ -416,10 +433,10 @@ module _ {S D P G C : Type 0} (g : Ghosts S D P G C) (f : Formats S D P G C) (x 
   -- ---- its lives
 
   same : IsOfOneMember before s
-  same = record { scheme = refl; me = refl; voter_me = refl; epoch = refl; length = refl; genesis = refl; mode = refl; elect = λ view c. refl }
+  same = record { scheme = refl; me = refl; voter_me = refl; epoch = refl; length = refl; genesis = λ payload more first second. some-is more payload (sym second ∙ first); mode = refl; elect = λ view c. refl }
 
   same-before : IsOfOneMember before before
-  same-before = record { scheme = refl; me = refl; voter_me = refl; epoch = refl; length = refl; genesis = refl; mode = refl; elect = λ view c. refl }
+  same-before = record { scheme = refl; me = refl; voter_me = refl; epoch = refl; length = refl; genesis = λ payload more first second. some-is more payload (sym second ∙ first); mode = refl; elect = λ view c. refl }
 
   module _ (final : IsHandedBy g f x.final_packet z) (null : IsHandedBy g f x.null_packet n) where
     lived-first : Lived g f before [] (cut_course x) (Began ∷ Opened 0 ∷ [])
@@ -450,8 +467,14 @@ module _ {S D P G C : Type 0} (g : Ghosts S D P G C) (f : Formats S D P G C) (x 
       refl,
     )
 
-    pub both-lived : Lives g f before [] ((one_member x).lives 0) (artifact.Finalization (finalization x) ∷ artifact.Nullification (nullification x) ∷ [])
-    both-lived = (Began ∷ Opened 0 ∷ [], lived-first, (h4, lived-second, refl, same), same-before)
+    pub both-lived : Lives g f before [] [] ((one_member x).lives 0) (artifact.Finalization (finalization x) ∷ artifact.Nullification (nullification x) ∷ []) (artifact.Finalization (finalization x) ∷ artifact.Nullification (nullification x) ∷ [])
+    both-lived = (
+      Began ∷ Opened 0 ∷ [],
+      record { appends = inl refl; readable = λ y here. absurd (Contains-nil y here) },
+      lived-first,
+      (h4, record { appends = refl; readable = λ y here. absurd (Contains-nil y here) }, lived-second, (refl, refl), same),
+      same-before,
+    )
 
 -- ---- the world of it
 
@@ -464,33 +487,17 @@ module _ {S D P G C : Type 0} (g : Ghosts S D P G C) (f : Formats S D P G C) (cm
   w = one_of_four x
 
   abbrev last_life : Life S D P G C
-  last_life = record { setup = timed x.own x.genesis 0 1500; course = taking_course x }
+  last_life = record { setup = timed x.own x.genesis 0 1500; brought = None; founded = []; course = taking_course x }
 
   abbrev first_life : Life S D P G C
-  first_life = record { setup = timed x.own x.genesis 0 1000; course = cut_course x }
+  first_life = record { setup = timed x.own x.genesis 0 1000; brought = None; founded = []; course = cut_course x }
 
   -- only the first member is correct
   is-first : (i : ℕ) → IsCorrect w i → i ≡ 0
-  is-first i correct = ⊎_elim
-      (λ low. omega (arith, low))
-      (λ high. let lt : i < 4 = correct.0 in absurd (correct.1 (among i high lt)))
-      (cases_lt i 1)
-    where
-      among : (i : ℕ) → 1 ≤ i → i < 4 → Contains (1 ∷ 2 ∷ 3 ∷ []) i
-      among i high lt = ⊎_elim
-          (λ two. (0, omega arith, omega (arith, high, two)))
-          (λ more. ⊎_elim
-          (λ three. (1, omega arith, omega (arith, more, three)))
-          (λ most. (2, omega arith, omega (arith, most, lt)))
-          (cases_lt i 3))
-          (cases_lt i 2)
+  is-first i correct = first-alone i correct.0 correct.1
 
   correct : IsCorrect w 0
-  correct = (omega arith, λ here. outside here)
-    where
-      outside : Contains {X = ℕ} (1 ∷ 2 ∷ 3 ∷ []) 0 → ⊥
-      outside here = ⊎_elim (λ is. omega (arith, is)) (λ later. ⊎_elim (λ is. omega (arith, is)) (λ last. ⊎_elim (λ is. omega (arith, is)) (λ none. Contains-nil {X = ℕ} 0 none) (Contains-cases {X = ℕ} 3 [] 0 last)) (Contains-cases {X = ℕ} 2 (3 ∷ []) 0 later))
-          (Contains-cases {X = ℕ} 1 (2 ∷ 3 ∷ []) 0 here)
+  correct = (omega arith, not-excused)
 
   -- ---- what came in is honest
 
@@ -526,8 +533,18 @@ module _ {S D P G C : Type 0} (g : Ghosts S D P G C) (f : Formats S D P G C) (cm
     alike = λ i signs. keys.alike;
     owner = λ i signs. refl;
     me = λ i signs. refl;
-    lived = λ i signs. subst (λ (k : ℕ). Lives g f (m.setup k) [] (m.lives k) (w.recorded k)) (sym (is-first i signs)) (both-lived g f x keys.alike.size_is keys.finalized keys.nullified final null);
+    lived = λ i signs. (
+      w.recorded 0,
+      subst (λ (k : ℕ). Lives g f (m.setup k) [] [] (m.lives k) (w.recorded k) (w.recorded 0)) (sym (is-first i signs)) (both-lived g f x keys.alike.size_is keys.finalized keys.nullified final null),
+    );
     honest = λ i sender signs y came. each-honest i signs came.1.0 came.1.1 came.0 came.1.2 sender y came.2;
+    floors = λ i signs c brought. absurd (⊎_elim
+        (λ is. none-some c (ap (λ (l : Life S D P G C). option_map certificate.Finalization l.brought) is ∙ brought.2))
+        (λ later. ⊎_elim
+        (λ is. none-some c (ap (λ (l : Life S D P G C). option_map certificate.Finalization l.brought) is ∙ brought.2))
+        (λ none. Contains-nil brought.0 none)
+        (Contains-cases last_life [] brought.0 later))
+        (Contains-cases first_life (last_life ∷ []) brought.0 (subst (λ (k : ℕ). Contains (m.lives k) brought.0) (is-first i signs) brought.1)));
   }
 
   told : AreReported g f scheme m w (both_reports x)

@@ -16,7 +16,7 @@ use Rattle.voter_history.specs.Leaders.{extend, handoff_leader, inherits, leader
 use Rattle.batcher_verifier.specs.History as votes
 use Rattle.batcher_verifier.specs.ConstructionResult.{after}
 use Rattle.simplex_member.specs.Layers.{Unopened, all_votes, current_of, floor_of, has_room, opened, opens, stage, votes_of}
-use Rattle.simplex_member.specs.Point.{Opened, Began, Built, Judged, Leads, Constructs, AsksBuild, AsksCertify, Votes, History}
+use Rattle.simplex_member.specs.Point.{Opened, Began, Built, Judged, Leads, Constructs, AsksBuild, AsksCertify, Votes, Rewrote, History}
 use Rattle.simplex_member.specs.Setup.{Setup}
 
 -- a test that two numbers are one, of which the second is greater
@@ -72,6 +72,7 @@ module _ {S D P G C : Type 0} (n : ℕ) where
   AreNear (views.voted_finalize view p ∷ h) = (view < n) × AreNear h
   AreNear (views.sent k view ∷ h) = (view < n) × AreNear h
   AreNear (views.pruned ∷ h) = AreNear h
+  AreNear (views.based view ∷ h) = AreNear h
   AreNear (x ∷ h) = ⊥
 
   module _ (view : ℕ) (far : n ≤ view) where
@@ -104,6 +105,7 @@ module _ {S D P G C : Type 0} (n : ℕ) where
     seen-far s (views.voted_finalize at p ∷ h) near = put-far at past.voted_finalize (seen s h) near.0 (seen-far s h near.1)
     seen-far s (views.sent k at ∷ h) near = put-far at (sent_item k) (seen s h) near.0 (seen-far s h near.1)
     seen-far s (views.pruned ∷ h) near = either-is (nat_lt view (min_active s h)) [] (seen s h view) [] refl (seen-far s h near)
+    seen-far s (views.based at ∷ h) near = seen-far s h near
     seen-far s (x ∷ h) near = absurd near
 
 -- ---- leaders
@@ -165,6 +167,7 @@ module _ {S D P G C : Type 0} (s : views.Setup S C) (me : s.me ≡ Some 0) (elec
   leads-alone n (views.voted_finalize at p ∷ h) near view = leads-on (views.voted_finalize at p) h (leads-alone n h near.1) view
   leads-alone n (views.sent k at ∷ h) near view = leads-on (views.sent k at) h (leads-alone n h near.1) view
   leads-alone n (views.pruned ∷ h) near view = one-kept (nat_lt view (min_active s h)) (leader s h view) (leads-alone n h near view)
+  leads-alone n (views.based at ∷ h) near view = leads-on (views.based at) h (leads-alone n h near) view
   leads-alone n (x ∷ h) near view = absurd near
 
 -- ---- votes
@@ -182,6 +185,7 @@ module _ {S D P G C : Type 0} (s : Setup S D C) (n : ℕ) where
   AreOfNear (AsksBuild number handoff context ∷ h) = AreOfNear h
   AreOfNear (AsksCertify p ∷ h) = AreOfNear h
   AreOfNear (Votes v ∷ h) = ((vote_round v).view < n) × AreOfNear h
+  AreOfNear (Rewrote c ∷ h) = AreOfNear h
   AreOfNear (x ∷ h) = ⊥
 
   module _ (view : ℕ) (far : n ≤ view) where
@@ -199,6 +203,7 @@ module _ {S D P G C : Type 0} (s : Setup S D C) (n : ℕ) where
     all-far (AsksBuild number handoff context ∷ h) near = all-far h near
     all-far (AsksCertify p ∷ h) near = all-far h near
     all-far (Votes v ∷ h) near = added (vote_round v).view (votes.Cast v) (all_votes view h) near.0 (all-far h near.1)
+    all-far (Rewrote c ∷ h) near = all-far h near
     all-far (x ∷ h) near = absurd near
 
     pub votes-far : (h : History S D P G C) → AreOfNear h → votes_of s h view ≡ []
@@ -224,6 +229,7 @@ module _ {S D P G C : Type 0} (s : Setup S D C) (n : ℕ) where
     not-yet (Votes v ∷ h) near =
         stays (opens s h (Votes v) view) _ (opened s h view) (closed ((vote_round v).view == view) false (has_room s.voter.length view) (other-far (vote_round v).view view (below n (vote_round v).view view far near.0)) refl)
         ∙ not-yet h near.1
+    not-yet (Rewrote c ∷ h) near = not-yet h near
     not-yet (x ∷ h) near = absurd near
 
     pub stage-far : (h : History S D P G C) → AreOfNear h → stage s h view ≡ Unopened

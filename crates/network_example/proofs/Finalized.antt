@@ -4,6 +4,7 @@ use Rattle.std.specs.Prelude.{MatchBool, ◌-◌, ◌&&◌, ◌||◌, Contains, 
 use Rattle.std.proofs.lemmas.Bool.{both_ways, cases_lt}
 use Rattle.std.proofs.lemmas.List.Elements.{All-cons, All-nil}
 use Rattle.types_quorum.specs.Committee.{quorum}
+use Rattle.types_quorum.specs.Counting.{Contains-nil}
 use Rattle.types_core.specs.declared.attestation.Attestation.{Attestation}
 use Rattle.types_core.specs.declared.context.Context.{Context}
 use Rattle.types_core.specs.declared.proposal.Proposal.{Proposal}
@@ -35,15 +36,16 @@ use Rattle.batcher_verifier.specs.ConstructionResult.{IsBatch, IsCertificateOf, 
 use Rattle.batcher_assembly.specs.Judging.{IsWhole}
 use Rattle.batcher_verifier.specs.Votes.{certificate_kind, is_proposal, vote_attestation, vote_statement}
 use Rattle.messages_certificates.specs.Certificate.{certificate_round, certificate_statement, certified_by}
+use Rattle.simplex_record.specs.Record as recorded
 use Rattle.simplex_record.specs.Record.{entries}
 use Rattle.simplex_resolver.specs.Outstanding.{IsOutstanding}
 use Rattle.simplex_member.specs.Allowed.{AsksFor, IsGivenBack, MayBeBuilt}
 use Rattle.simplex_member.specs.Asked.{IsAwaited, IsJudged, build_at, next_number}
 use Rattle.simplex_member.specs.Layers.{Collected, IsUp, Unopened, is_up, current_of, known_of, latest, repair_of, stage, voter_of, votes_of, votes_setup}
-use Rattle.simplex_member.specs.Member.{Goes, NoneDue}
+use Rattle.simplex_member.specs.Member.{Goes, IsRewritten, NoneDue}
 use Rattle.simplex_member.specs.Packet.{Formats}
-use Rattle.simplex_member.specs.Point.{Opened, Began, Built, Judged, Leads, AsksBuild, AsksCertify, Constructs, Votes, History}
-use Rattle.simplex_member.specs.Recorded.{record_of}
+use Rattle.simplex_member.specs.Point.{Opened, Found, Began, Built, Judged, Leads, AsksBuild, AsksCertify, Constructs, Votes, Rewrote, History}
+use Rattle.simplex_member.specs.Recorded.{kept_of, record_of}
 use Rattle.simplex_member.specs.Setup.{IsInTime, Setup, member_of}
 use Rattle.network_example.specs.Finalized.{CanBeKept, agreeing, finalizing, IsLone, Lone, alone, context_behind, finalization_behind, finalize_behind, made, notarization_behind, notarize_behind, proposal_behind, round_of, signed_by}
 use Rattle.network_example.proofs.Far.{AreNear, AreOfNear, leads-alone, seen-far, stage-far}
@@ -170,6 +172,12 @@ module _ {S D P G C : Type 0} (g : Ghosts S D P G C) (f : Formats S D P G C) (x 
 
   abbrev pub h5 : History S D P G C
   h5 = finalized_behind 1 h4
+
+  abbrev pub h6 : History S D P G C
+  h6 = Rewrote (finalization_behind g x 1) ∷ h5
+
+  abbrev pub opened_over : History S D P G C
+  opened_over = Began ∷ Found (artifact.Finalization (finalization_behind g x 1)) false ∷ Opened 0 ∷ []
 
   le-up-to : (n : ℕ) → 0 ≤ n
   le-up-to n = omega arith
@@ -610,6 +618,20 @@ module _ {S D P G C : Type 0} (g : Ghosts S D P G C) (f : Formats S D P G C) (x 
       (stood (2 == number) (false, context_of 2) (handoff, context) (build_at h4 number) (none-built-second number) is))
       (λ view out. ⊎_elim (λ below. let l : view < 2 = below.0 in let low : 2 < view = out.above in omega (arith, l, low)) (λ failed. both_ways false refl failed) out.due)
 
+  none-sixth : NoneDue g f s h6
+  none-sixth = nothing-due h6 near-fifth of-fifth
+      nothing-seen (finished (seen s.voter (voter_of s h6) 1) refl refl refl) (finished (seen s.voter (voter_of s h6) 2) refl refl refl) (unproposed (seen s.voter (voter_of s h6) 3) (λ c. c) refl refl)
+      (none-counted h6 0 refl) (counted h6 1 refl refl (unready-finalized 0 1)) (counted h6 2 refl refl (unready-finalized 1 2)) (counted h6 3 refl refl (unready-led 3))
+      (λ due. let e : 1000 ≡ due.moment = ap moment_of due.next in let r : due.moment ≤ 0 = due.reached in omega (arith, e, r))
+      refl (building-on h6 3 (at-last 3) refl tt refl)
+      (λ number handoff context is. standing-build h6 3 (at-last 3) refl 2 refl (last-certified h6 2 starts-third room-third refl) handoff context
+      (stood (2 == number) (false, context_of 2) (handoff, context) (build_at h4 number) (none-built-second number) is))
+      (λ view out. ⊎_elim (λ below. let l : view < 2 = below.0 in let low : 2 < view = out.above in omega (arith, l, low)) (λ failed. both_ways false refl failed) out.due)
+
+  -- the rewrite behind its second finalization
+  pub rewritten-so : IsRewritten g f s h5 (finalization_behind g x 1)
+  rewritten-so = record { allowed = record { order = refl; due = record { able = refl; terms = omega arith; next = refl }; fits = tt; readable = tt }; none_due = none-sixth }
+
   -- ---- from point to point
 
   some-points : {X : Type 0} (y : X) (ys : List X) → (y ∷ ys ≡ [] → ⊥)
@@ -638,6 +660,24 @@ module _ {S D P G C : Type 0} (g : Ghosts S D P G C) (f : Formats S D P G C) (x 
           refl,
         ),
       ),
+    ),
+  )
+
+  -- over what the rewrite left
+  pub goes-over : Goes g f s [] (Opened 0 ∷ Found (artifact.Finalization (finalization_behind g x 1)) false ∷ Began ∷ []) opened_over
+  goes-over = (
+    record { order = refl; due = early; fits = tt; readable = tt },
+    (
+      record {
+        order = (some-points (Opened 0) [], refl);
+        due = tt;
+        fits = record {
+          verifies = record { epoch = refl; verifies = lone.ended 1 };
+          follows = record { from_one = omega arith; room = room-second; parent_below = omega arith; first = λ t alike taken. Contains-nil (recorded.taken t) taken };
+        };
+        readable = tt;
+      },
+      (record { order = (some-points (Found (artifact.Finalization (finalization_behind g x 1)) false) (Opened 0 ∷ []), refl); due = tt; fits = tt; readable = tt }, refl),
     ),
   )
 
@@ -762,14 +802,14 @@ module _ {S D P G C : Type 0} (g : Ghosts S D P G C) (f : Formats S D P G C) (x 
   )
 
   -- the verdict is awaited, and none is there
-  pub unjudged-first : IsJudged h2 1 → ⊥
-  unjudged-first j = no-verdict (entries (record_of h2)) 1 (tt, (tt, tt)) j.0 j.1 j.2 j.3
+  pub unjudged-first : IsJudged s h2 1 → ⊥
+  unjudged-first j = no-verdict (entries (kept_of 1 h2)) 1 (tt, (tt, tt)) j.0 j.1 j.2 j.3
 
   pub awaited-first : IsAwaited s h2 1
   awaited-first = record { proposal = proposal_of 0; asked = (0, omega arith, refl); at = refl; above = omega arith; first = unjudged-first }
 
-  pub unjudged-second : IsJudged h4 2 → ⊥
-  unjudged-second j = no-verdict (entries (record_of h4)) 2 (tt, (tt, (λ is. later 1 2 one-two (sym is), (tt, (tt, (tt, (tt, tt))))))) j.0 j.1 j.2 j.3
+  pub unjudged-second : IsJudged s h4 2 → ⊥
+  unjudged-second j = no-verdict (entries (kept_of 1 h4)) 2 (tt, (tt, (λ is. later 1 2 one-two (sym is), (tt, (tt, (tt, (tt, tt))))))) j.0 j.1 j.2 j.3
 
   pub awaited-second : IsAwaited s h4 2
   awaited-second = record { proposal = proposal_of 1; asked = (0, omega arith, refl); at = refl; above = omega arith; first = unjudged-second }
@@ -783,7 +823,7 @@ module _ {S D P G C : Type 0} (g : Ghosts S D P G C) (f : Formats S D P G C) (x 
         verifies = tt;
         follows = record {
           notarized = (proposal_of 0, refl, (1, omega arith, refl));
-          first = λ t verdict same here. no-verdict (entries (record_of h2)) 1 (tt, (tt, tt)) t verdict same here;
+          first = λ t verdict same here. no-verdict (entries (kept_of 1 h2)) 1 (tt, (tt, tt)) t verdict same here;
         };
       };
       readable = can.kept 0 (omega arith) (artifact.Certification (round_of 1) true) (2, omega arith, refl);
@@ -850,7 +890,7 @@ module _ {S D P G C : Type 0} (g : Ghosts S D P G C) (f : Formats S D P G C) (x 
         verifies = tt;
         follows = record {
           notarized = (proposal_of 1, refl, (6, omega arith, refl));
-          first = λ t verdict same here. no-verdict (entries (record_of h4)) 2 (tt, (tt, (λ is. later 1 2 one-two (sym is), (tt, (tt, (tt, (tt, tt))))))) t verdict same here;
+          first = λ t verdict same here. no-verdict (entries (kept_of 1 h4)) 2 (tt, (tt, (λ is. later 1 2 one-two (sym is), (tt, (tt, (tt, (tt, tt))))))) t verdict same here;
         };
       };
       readable = can.kept 1 (omega arith) (artifact.Certification (round_of 2) true) (2, omega arith, refl);

@@ -7,6 +7,7 @@ mod Plain
 mod Stir
 mod Contradicted
 mod PlainContradicted
+mod Based
 mod Far
 mod Resolved
 mod Rules

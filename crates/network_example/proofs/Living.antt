@@ -4,7 +4,7 @@ use Rattle.std.specs.Prelude.{◌==◌, Contains, if◌then◌else◌}
 use Rattle.std.proofs.lemmas.Bool.{both_ways}
 use Rattle.std.proofs.lemmas.List.Elements.{All-cons, All-nil}
 use Rattle.types_core.specs.declared.scheme.Scheme.{Ghosts}
-use Rattle.types_quorum.specs.Counting.{Contains-cases}
+use Rattle.types_quorum.specs.Counting.{Contains-cases, Contains-nil}
 use Rattle.types_core.specs.Subject.{Statement, nullify}
 use Rattle.messages_certificates.specs.declared.artifact.Artifact.TheVariants as artifact
 use Rattle.messages_certificates.specs.declared.certificate.Certificate.TheVariants as certificate
@@ -29,6 +29,9 @@ use Rattle.simplex_member.specs.Refusals.{packet_tests, refused_deeds, sender_te
 use Rattle.simplex_member.specs.Setup.{Setup, IsInTime, IsOfOneMember, owner_of}
 use Rattle.network_example.specs.Example.{IsJunk, IsPacketOf, crashed_life, first, nullification_of, nullify_of, repeating_life, sender_to, set_up}
 use Rattle.network_example.proofs.Resting.{none-due, opened_first, opened_again, has_repeated, has_taken, quiet-first, quiet-again, quiet-repeated, quiet-taken}
+
+some-is : {X : Type 0} (x y : X) → Some x ≡ Some y → x ≡ y
+some-is x y e = cc e
 
 abbrev is_there : {X : Type 0} → List X → Bool
 is_there [] = false
@@ -294,8 +297,14 @@ module _ {S D P G C : Type 0} (g : Ghosts S D P G C) (f : Formats S D P G C) (ow
     )
 
     same : IsOfOneMember s s
-    same = record { scheme = refl; me = refl; voter_me = refl; epoch = refl; length = refl; genesis = refl; mode = refl; elect = λ view certificate. refl }
+    same = record { scheme = refl; me = refl; voter_me = refl; epoch = refl; length = refl; genesis = λ payload more first second. some-is more payload (sym second ∙ first); mode = refl; elect = λ view certificate. refl }
 
-    pub both-lived : (junk : Event D) → IsJunk g f junk → Lives g f s [] (record { setup = s; course = crashed_life junk (nullify_of signed i) } ∷ record { setup = s; course = repeating_life (nullify_of signed i) handed given } ∷ [])
-        (artifact.Nullify (nullify_of signed i) ∷ artifact.Nullification given ∷ [])
-    both-lived junk is = (h2, lived-first junk is, (h5, lived-second, refl, same), same)
+    pub both-lived : (junk : Event D) → IsJunk g f junk → Lives g f s [] [] (record { setup = s; brought = None; founded = []; course = crashed_life junk (nullify_of signed i) } ∷ record { setup = s; brought = None; founded = []; course = repeating_life (nullify_of signed i) handed given } ∷ [])
+        (artifact.Nullify (nullify_of signed i) ∷ artifact.Nullification given ∷ []) (artifact.Nullify (nullify_of signed i) ∷ artifact.Nullification given ∷ [])
+    both-lived junk is = (
+      h2,
+      record { appends = refl; readable = λ y here. absurd (Contains-nil y here) },
+      lived-first junk is,
+      (h5, record { appends = refl; readable = λ y here. absurd (Contains-nil y here) }, lived-second, (refl, refl), same),
+      same,
+    )

@@ -1,9 +1,10 @@
 -- The example is a network.
-use Rattle.std.proofs.Common.{◌≡◌, inl, ⊎_elim, ℕ, ◌<◌, ◌≤◌, ◌==◌, Bool, true, false, List, [], ◌∷◌, Some, None, refl, sym, ◌∙◌, subst, arith}
-use Rattle.std.specs.Prelude.{All, Contains, if◌then◌else◌}
+use Rattle.std.proofs.Common.{◌≡◌, inl, ⊎_elim, ℕ, ◌<◌, ◌≤◌, ◌==◌, Bool, true, false, List, [], ◌∷◌, Some, None, refl, sym, ◌∙◌, ap, subst, arith}
+use Rattle.messages_certificates.specs.declared.certificate.Certificate.TheVariants as certificate
+use Rattle.std.specs.Prelude.{All, Contains, if◌then◌else◌, option_map}
 use Rattle.std.proofs.lemmas.Bool.{cases_lt}
 use Rattle.std.proofs.lemmas.List.Elements.{All-cons, All-contains, All-nil}
-use Rattle.types_quorum.specs.Counting.{Contains-cases}
+use Rattle.types_quorum.specs.Counting.{Contains-cases, Contains-nil}
 use Rattle.types_core.specs.declared.scheme.Scheme.{Ghosts}
 use Rattle.messages_certificates.specs.declared.certificate.Certificate.{Certificate}
 use Rattle.simplex_record.specs.World.{World, IsCorrect, IsHonest}
@@ -135,10 +136,20 @@ module _ {S D P G C : Type 0} (g : Ghosts S D P G C) (f : Formats S D P G C) (sc
       alike = λ i correct. keys.alike i (below i correct);
       owner = λ i correct. refl;
       me = λ i correct. refl;
-      lived = λ i correct. both-lived g f x.own x.genesis x.signed i (below i correct) (keys.alike i (below i correct)).size_is (keys.attests i (below i correct)) x.packed (keys.certifies i (below i correct)) (packets.recordable i (below i correct)) packets.certificate_recordable
-          (x.handed i) (packets.handed i) packets.read x.junk packets.junk;
+      lived = λ i correct. (
+        (four_world x).recorded i,
+        both-lived g f x.own x.genesis x.signed i (below i correct) (keys.alike i (below i correct)).size_is (keys.attests i (below i correct)) x.packed (keys.certifies i (below i correct)) (packets.recordable i (below i correct)) packets.certificate_recordable
+            (x.handed i) (packets.handed i) packets.read x.junk packets.junk,
+      );
       honest = λ i sender correct y came.
           each-fine HoldsHonest (junk-honest x.junk packets.junk) moment-honest (λ k. handed-honest (x.handed k) (sender_to k) (packets.handed k)) i came.1.0 came.1.1 came.0 came.1.2 sender y came.2;
+      floors = λ i correct c brought. absurd (⊎_elim
+          (λ is. none-some c (ap (λ (l : Life S D P G C). option_map certificate.Finalization l.brought) is ∙ brought.2))
+          (λ later. ⊎_elim
+          (λ is. none-some c (ap (λ (l : Life S D P G C). option_map certificate.Finalization l.brought) is ∙ brought.2))
+          (λ none. Contains-nil brought.0 none)
+          (Contains-cases (second_life x i) [] brought.0 later))
+          (Contains-cases (first_life x i) (second_life x i ∷ []) brought.0 brought.1));
     };
     few = record { some = one-of-four; few = few-enough };
     elector = record { leader = λ view. Some 3; one = λ i correct view. refl };
@@ -157,8 +168,7 @@ module _ {S D P G C : Type 0} (g : Ghosts S D P G C) (f : Formats S D P G C) (sc
     seen = inl (record {
       member = 0;
       correct = (one-of-four, λ here. ⊎_elim (λ is. omega (arith, is)) (λ none. let l : none.0 < 0 = none.1 in omega (arith, l)) (Contains-cases 3 [] 0 here));
-      sender = sender_to 0;
-      came = (x.handed 0, (second_life x 0, (1, last-of-two, refl), (1, last-of-two, refl)), handed-holds (x.handed 0) (sender_to 0) (packets.handed 0));
+      handed = inl (sender_to 0, (x.handed 0, (second_life x 0, (1, last-of-two, refl), (1, last-of-two, refl)), handed-holds (x.handed 0) (sender_to 0) (packets.handed 0)));
       verifies = keys.certifies 0 (omega arith);
     });
     taken = λ i correct. (1, last-of-two, refl);

@@ -65,10 +65,11 @@ module _ {S D C : Type 0} where
       skip_budget = 0;
     };
     me = i;
-    genesis = genesis;
+    genesis = Some genesis;
     silence = None;
     forward = policy.Disabled;
     tracks = false;
+    rewrites = false;
   }
 
   -- the proposal of the round
@@ -97,8 +98,8 @@ module _ {S D P G C : Type 0} (x : Forged S D C) where
   one_member = record {
     setup = λ i. timed x.own x.genesis i 1000;
     lives = λ i.
-        record { setup = timed x.own x.genesis i 1000; course = cut_course }
-        ∷ record { setup = timed x.own x.genesis i 1500; course = taking_course }
+        record { setup = timed x.own x.genesis i 1000; brought = None; founded = []; course = cut_course }
+        ∷ record { setup = timed x.own x.genesis i 1500; brought = None; founded = []; course = taking_course }
         ∷ [];
   }
 

@@ -61,10 +61,11 @@ module _ {S D C : Type 0} where
       skip_budget = 0;
     };
     me = i;
-    genesis = genesis;
+    genesis = Some genesis;
     silence = None;
     forward = policy.Disabled;
     tracks = false;
+    rewrites = false;
   }
 
 module _ {S D P G C : Type 0} where
@@ -87,11 +88,13 @@ module _ {S D P G C : Type 0} where
   module _ (x : Parts S D G C) where
     -- its two lives
     abbrev pub first_life : ℕ → Life S D P G C
-    first_life i = record { setup = set_up x.own x.genesis i; course = crashed_life x.junk (nullify_of x.signed i) }
+    first_life i = record { setup = set_up x.own x.genesis i; brought = None; founded = []; course = crashed_life x.junk (nullify_of x.signed i) }
 
     abbrev pub second_life : ℕ → Life S D P G C
     second_life i = record {
       setup = set_up x.own x.genesis i;
+      brought = None;
+      founded = [];
       course = repeating_life (nullify_of x.signed i) (x.handed i) (nullification_of x.packed);
     }
 

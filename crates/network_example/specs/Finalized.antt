@@ -1,5 +1,5 @@
 -- A committee of one that finalizes two views, the second one on the first: it builds in each, votes, makes each certificate of its own vote
--- alone, and finds good what it built.
+-- alone, and finds good what it built. Then it rewrites its record, and crashes while it does; the new record is left, and it opens over that.
 use Rattle.std.specs.Prelude.{◌≡◌, ◌+◌, ◌<◌, ℕ, false, true, List, [], ◌∷◌, Contains, Some, None}
 use Rattle.std.specs.declared.vec.Vec.{Vec}
 use Rattle.std.specs.declared.alloc.Global.{Global}
@@ -24,9 +24,9 @@ use Rattle.simplex_record.specs.World.{World, IsAlike}
 use Rattle.simplex_member.specs.declared.event.Event.TheVariants as event
 use Rattle.simplex_member.specs.Deeds.{Finalizes}
 use Rattle.simplex_member.specs.Laws.{DoAttestAlike}
-use Rattle.simplex_member.specs.Lives.{AreFaithful, AtMostFLie, Course, HandedOut, Lasting, Life, LiveByNodes, Members, Went}
+use Rattle.simplex_member.specs.Lives.{AreFaithful, AtMostFLie, Broken, Course, HandedOut, Lasting, Life, LiveByNodes, Lives, Members, Rewrites, Went}
 use Rattle.simplex_member.specs.Packet.{Formats, IsRecordable}
-use Rattle.simplex_member.specs.Point.{Point, Opened, Began, Built, Judged, Leads, AsksBuild, AsksCertify, Constructs, Votes}
+use Rattle.simplex_member.specs.Point.{Point, Opened, Found, Began, Built, Judged, Leads, AsksBuild, AsksCertify, Constructs, Votes}
 use Rattle.simplex_member.specs.Setup.{Setup}
 use Rattle.simplex_network.specs.Network.{HaveOneElector, IsSeen}
 
@@ -65,10 +65,11 @@ module _ {S D C : Type 0} where
       skip_budget = 0;
     };
     me = 0;
-    genesis = genesis;
+    genesis = Some genesis;
     silence = None;
     forward = policy.Disabled;
     tracks = false;
+    rewrites = true;
   }
 
 module _ {S D P G C : Type 0} (g : Ghosts S D P G C) (x : Lone S D G C) where
@@ -111,17 +112,29 @@ module _ {S D P G C : Type 0} (g : Ghosts S D P G C) (x : Lone S D G C) where
       ∷ Constructs (view + 1) kind.Finalization (made (certificate.Finalization (finalization_behind view))) ∷ Leads (view + 2) 0
       ∷ AsksBuild (view + 1) false (context_behind (view + 1)) ∷ []
 
-  -- its one life: two views, one after the other
+  -- its first life: two views, one after the other, and the rewrite in which it crashes
   abbrev pub two_views : Course S D P G C
   two_views = Lasting 0 (Opened 0 ∷ Began ∷ Leads 1 0 ∷ AsksBuild 0 false (context_behind 0) ∷ [])
       (Went (event.Built 0 (Some (x.payload 1))) (agreeing 0) ∷ Went (event.Verdict 1 true) (finalizing 0)
-      ∷ Went (event.Built 1 (Some (x.payload 2))) (agreeing 1) ∷ Went (event.Verdict 2 true) (finalizing 1) ∷ []) None
+      ∷ Went (event.Built 1 (Some (x.payload 2))) (agreeing 1) ∷ Went (event.Verdict 2 true) (finalizing 1)
+      ∷ Rewrites (finalization_behind 1) ∷ []) None
 
   abbrev pub lone_life : Life S D P G C
-  lone_life = record { setup = alone x.own (x.payload 0); course = two_views }
+  lone_life = record { setup = alone x.own (x.payload 0); brought = None; founded = []; course = two_views }
+
+  -- what is left of what it recorded: the finalization of the second view alone
+  abbrev pub left_of_two : List (Artifact S D P G C)
+  left_of_two = artifact.Finalization (finalization_behind 1) ∷ []
+
+  -- its second life: an opening over that
+  abbrev pub over_the_left : Course S D P G C
+  over_the_left = Broken 0 (Opened 0 ∷ Found (artifact.Finalization (finalization_behind 1)) false ∷ Began ∷ [])
+
+  abbrev pub next_life : Life S D P G C
+  next_life = record { setup = alone x.own (x.payload 0); brought = None; founded = []; course = over_the_left }
 
   abbrev pub lone_member : Members S D P G C
-  lone_member = record { setup = λ i. alone x.own (x.payload 0); lives = λ i. lone_life ∷ [] }
+  lone_member = record { setup = λ i. alone x.own (x.payload 0); lives = λ i. lone_life ∷ next_life ∷ [] }
 
   -- what it records of the view behind this one
   abbrev pub recorded_behind : ℕ → List (Artifact S D P G C) → List (Artifact S D P G C)
@@ -156,9 +169,10 @@ module _ {S D P G C : Type 0} (g : Ghosts S D P G C) (x : Lone S D G C) where
       pub same : (view : ℕ) → f.same (x.payload view) (x.payload view) ≡ true
       pub kept : (view : ℕ) → view < 2 → (y : Artifact S D P G C) → Contains (recorded_behind view []) y → IsRecordable f y
 
-    -- it is a network, of a member by whom the premises of accountability are met too; the proposal of each view is handed out as final, and
-    -- its finalization is seen; and the second stands on the first
+    -- it is a network, of a member by whom the premises of accountability are met too, and of whose record the second finalization is left; the
+    -- proposal of each view is handed out as final, and its finalization is seen; and the second stands on the first
     pub record IsFinalizing (scheme : S) : Type 0 where
+      pub rewritten : Lives g f (lone_member.setup 0) [] [] (lone_member.lives 0) (recorded_behind 0 (recorded_behind 1 [])) left_of_two
       pub live : LiveByNodes g f scheme lone_member world_of_one
       pub few : AtMostFLie world_of_one
       pub elector : HaveOneElector g f scheme lone_member world_of_one

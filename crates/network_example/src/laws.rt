@@ -2,6 +2,7 @@
 
 ghost use Rattle.simplex_member.specs.Laws.{IsExact};
 ghost use Rattle.simplex_member.specs.Packet.{Formats, formats};
+ghost use Rattle.network_example.specs.Based.{MembersBeginAtFloors};
 ghost use Rattle.network_example.specs.Contradicted.{ContradictionsAreNamed};
 ghost use Rattle.network_example.specs.Example.{NetworksAreThere};
 ghost use Rattle.network_example.specs.Finalized.{TwoViewsAreFinalized};
@@ -55,8 +56,15 @@ pub fn plain_contradictions_are_named<D: Digest>()
     packets_are_read_back::<PlainScheme, D>();
 }
 
+/// The finalization of such a view lets the fourth member begin there: its opening brings it, records it, reports it and hands its proposal
+/// out as final, and sends nothing. Its record begins at the view.
+pub fn members_begin_at_floors<S: Scheme<D>, D: Digest>()
+    ensures { (f : Formats S D S.PublicKey S.Signature S.Certificate) → MembersBeginAtFloors S.Scheme f }
+{}
+
 /// A committee of one finalizes two views, the second on the first: it builds in each, votes, makes each certificate of its own vote, and
-/// finds good what it built. Both proposals are handed out as final, and both finalizations seen.
+/// finds good what it built. Both proposals are handed out as final, and both finalizations seen. Then it rewrites its record, crashes while
+/// it does, and opens over the second finalization, of which alone the new record consists.
 pub fn two_views_are_finalized<S: Scheme<D>, D: Digest>()
     ensures { (f : Formats S D S.PublicKey S.Signature S.Certificate) → TwoViewsAreFinalized S.Scheme f }
 {}

@@ -4,6 +4,7 @@
 mod laws;
 
 pub use laws::{
-    contradictions_are_named, networks_are_there, plain_contradictions_are_named,
-    plain_networks_are_there, plain_views_are_finalized, two_views_are_finalized,
+    contradictions_are_named, members_begin_at_floors, networks_are_there,
+    plain_contradictions_are_named, plain_networks_are_there, plain_views_are_finalized,
+    two_views_are_finalized,
 };

@@ -1,5 +1,5 @@
 -- What is asked of the layers of a node that are told of a recorded artifact.
-use Rattle.std.specs.Prelude.{◌≡◌, ℕ, Bool, true, List, IsSome, is_none}
+use Rattle.std.specs.Prelude.{◌≡◌, ℕ, Bool, true, List, Some, IsSome, is_none}
 use Rattle.types_core.specs.declared.position.Round.{Round}
 use Rattle.types_core.specs.declared.scheme.Scheme.{Ghosts}
 use Rattle.types_core.specs.Positions.{HasRoom}
@@ -78,7 +78,7 @@ module _ {S L D P G C : Type 0} (g : Ghosts S D P G C) (e : elector.Ghosts L S D
     pub members : ℕ
     pub s : Setup S D C
     pub found : List (Artifact S D P G C)
-    pub genesis_is : genesis ≡ s.genesis
+    pub genesis_is : Some genesis ≡ s.genesis
     pub in_time : IsInTime s now
     pub record_is : IsRecordOf g s recorded found
     pub new : AreNew g e (formats members) s now layers

@@ -1,6 +1,6 @@
 //! What a node keeps above its record, and how it goes through the record when it is opened.
 
-ghost use Rattle.std.specs.Prelude.{◌≡◌, ◌∷◌, ◌++◌, [], ℕ, List, IfOk, OnOk, map};
+ghost use Rattle.std.specs.Prelude.{◌≡◌, ◌∷◌, ◌++◌, [], ℕ, List, Some, IfOk, OnOk, map};
 ghost use Rattle.messages_certificates.specs.declared.artifact.Artifact.{Artifact};
 ghost use Rattle.simplex_member.specs.declared.action.Action.{Action};
 ghost use Rattle.simplex_member.specs.Deeds.{AreActions, Reports};
@@ -112,7 +112,7 @@ impl<S: Scheme<D> + Drop, L: Elector<S, D>, D: Digest> Layers<S, L, D> {
         requires { MayBegin S.Scheme L.Elector ⟦<S as Speaks<D>>⟧.formats recorded.now self.old now genesis }
         ensures { IfOk result (λ out.
             (n : ℕ) (s : Setup S D S.Certificate) (found : List (Artifact S D S.PublicKey S.Signature S.Certificate))
-            → genesis ≡ s.genesis
+            → Some genesis ≡ s.genesis
             → IsInTime s now
             → IsRecordOf S.Scheme s recorded.now found
             → AreNew S.Scheme L.Elector (⟦<S as Speaks<D>>⟧.formats n) s now self.old
@@ -129,7 +129,7 @@ impl<S: Scheme<D> + Drop, L: Elector<S, D>, D: Digest> Layers<S, L, D> {
     /// Starts the voter at this moment, and enters its first view.
     fn start(&mut self, now: u64, genesis: D) -> Result<(), AllocError>
         ensures { OnOk result ((n : ℕ) (s : Setup S D S.Certificate)
-            → genesis ≡ s.genesis
+            → Some genesis ≡ s.genesis
             → AreNew S.Scheme L.Elector (⟦<S as Speaks<D>>⟧.formats n) s now self.old
             → StandAt S.Scheme L.Elector (⟦<S as Speaks<D>>⟧.formats n) s self.new (Opened now ∷ [])) }
     {

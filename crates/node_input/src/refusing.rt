@@ -19,7 +19,7 @@ use journal_single::Disk;
 use messages_certificates::Certificate;
 use node_core::Core;
 use node_inbox::{has_parent_below, vote_has_parent_below};
-use simplex_member::{Refusal, Speaks};
+use simplex_member::{Refusal, Speaks, what_is_kept_tells_all};
 use simplex_messages::Vote;
 use types_core::{Attributable, Digest, Epochable, Participant, Scheme, View, Viewable};
 use types_terms::Elector;
@@ -119,6 +119,7 @@ pub(crate) fn verdict_refusal<S: Scheme<D> + Drop, L: Elector<S, D>, D: Digest, 
         (λ f s h. (ok : Bool) → IsFirst (tests S.Scheme f s h (event.Verdict view ok)) result) }
     ensures may { IfNone result (AtOwn S.Scheme L.Elector K.Disk ⟦<S as Speaks<D>>⟧.formats core.now (λ f s h. IsAwaited s h view)) }
 {
+    what_is_kept_tells_all::<S, D>();
     if core.ledger.recorded().is_judged(view) {
         return Some(Refusal::SecondVerdict);
     }

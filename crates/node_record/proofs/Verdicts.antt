@@ -65,7 +65,7 @@ module _ {S D P G C : Type 0} where
   ]
 
   -- a request stands that was asked for, of a view above the last finalized one, where no verdict is recorded
-  pub request_stands : (s : Setup S D C) (h : History S D P G C) (view : ℕ) (told : Bool) → IsTrue told ↔ ((finalized_of s h < view) × Contains (verdicts_of h) view) → ¬ IsJudged h view
+  pub request_stands : (s : Setup S D C) (h : History S D P G C) (view : ℕ) (told : Bool) → IsTrue told ↔ ((finalized_of s h < view) × Contains (verdicts_of h) view) → ¬ IsJudged s h view
       → IsTrue told ↔ IsAwaited s h view
   request_stands s h view told is none = (
     λ so. let a = is.0 so in let q = was_asked h view a.1 in record { proposal = q.0; asked = q.1; at = q.2; above = a.0; first = none },

@@ -206,7 +206,7 @@ impl<S: Scheme<D>, D: Digest> Tables<S, D> {
         ensures asked { AtEach self.now (λ low h. IsTrue result ↔ ((low < view) × Contains (verdicts_of h) view)) }
         ensures awaited { (s : Setup S D S.Certificate) (h : History S D S.PublicKey S.Signature S.Certificate)
             → KeepsTables (finalized_of s h) self.now h
-            → ¬ IsJudged h view
+            → ¬ IsJudged s h view
             → IsTrue result ↔ IsAwaited s h view }
     {
         self.verdicts.contains(&view)

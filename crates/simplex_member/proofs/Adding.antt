@@ -11,7 +11,7 @@ use Rattle.voter_history.specs.History as views
 use Rattle.voter_history.specs.History.{finalized, pruned, sent}
 use Rattle.simplex_resolver.specs.declared.ask.Kind as repair
 use Rattle.simplex_member.specs.Layers.{finalizes_above, latest, takes_certificate, voter_points}
-use Rattle.simplex_member.specs.Point.{Point, Opened, Found, Began, Told, Heard, Came, Wanted, Built, Checked, Judged, Leads, Forwards, Constructs, Latches, Polls, AsksBuild, AsksVerify, AsksCertify, GivesBack, LeavesBehind, PutsOff, Asks, Resolves, Votes, Repeats, History, is_act}
+use Rattle.simplex_member.specs.Point.{Point, Opened, Found, Began, Told, Heard, Came, Wanted, Built, Checked, Judged, Leads, Forwards, Constructs, Latches, Polls, AsksBuild, AsksVerify, AsksCertify, GivesBack, LeavesBehind, PutsOff, Asks, Resolves, Votes, Repeats, Rewrote, History, is_act}
 use Rattle.simplex_member.specs.Setup.{Setup}
 use Rattle.simplex_member.proofs.Staying.{AllAdd}
 use Rattle.simplex_member.proofs.Telling.{apart}
@@ -68,3 +68,4 @@ module _ {S D P G C : Type 0} (Null : Type 0) (Ahead : ℕ → Type 0) (Asked : 
   act-adds (Votes (vote.Nullify v)) h low own met = (met.votes v refl, tt)
   act-adds (Votes (vote.Finalize v)) h low own met = (tt, tt)
   act-adds (Repeats v best) h low own met = (met.repeats v best refl, tt)
+  act-adds (Rewrote c) h low own met = absurd (apart own)

@@ -25,7 +25,7 @@ use Rattle.simplex_member.specs.declared.refusal.Refusal.TheVariants as refusal
 use Rattle.simplex_member.specs.Allowed.{Allowed}
 use Rattle.simplex_member.specs.Deeds.{Deed, Sends, Serves, Blocks, Reports}
 use Rattle.simplex_member.specs.First.{IsFirst}
-use Rattle.simplex_member.specs.Laws.{AreReadBack, DoAttestAlike, HoldsNoVote, IsRefusedFor, ReadsAsPacket, RecordLaws, RoundLaws}
+use Rattle.simplex_member.specs.Laws.{AreReadBack, DoAttestAlike, HoldsNoVote, IsRefusedFor, LifeLaws, ReadsAsPacket, RoundLaws}
 use Rattle.simplex_member.specs.Lives.{AreFaithful, Carries, HandedOut, HasBytes, LiveByNodes, Members}
 use Rattle.simplex_member.specs.Packet.{Formats, IsReadable, Packet, of_ask, of_certificate, of_vote, packet_channel, packet_of}
 use Rattle.simplex_member.specs.Point.{Point, History}
@@ -34,18 +34,17 @@ use Rattle.simplex_member.specs.Refusals.{blocks_sender, evidence_deeds, packet_
 use Rattle.simplex_member.specs.Setup.{IsOfOneMember, Setup}
 use Rattle.simplex_member.proofs.Allowing.{begun-allowed}
 use Rattle.simplex_member.proofs.Asking.{AreSmall, asked-low}
-use Rattle.simplex_member.proofs.Blame.{own-sound, splits, vote-readable}
+use Rattle.simplex_member.proofs.Blame.{LawfulEver, own-sound, splits, vote-readable}
 use Rattle.simplex_member.proofs.Doing.{deeds-are}
 use Rattle.simplex_member.proofs.Entering.{best-recorded}
-use Rattle.simplex_member.proofs.Going.{Lawful}
+use Rattle.simplex_member.proofs.Keeping.{all-readable}
 use Rattle.simplex_member.proofs.Lists.{Contains-mapped, put-here}
-use Rattle.simplex_member.proofs.Living.{all-lives-lawful}
+use Rattle.simplex_member.proofs.Living.{votes-so}
 use Rattle.simplex_member.proofs.Reporting.{one}
 use Rattle.simplex_member.proofs.Serving.{served-spelled}
 use Rattle.simplex_member.proofs.Spared.{evidence-spares, report-spares, sender-alone, spares}
 use Rattle.simplex_member.proofs.Walk.{refused-alone}
 use Rattle.simplex_member.proofs.Walking.{deed-done, reached-goes, reached-heard}
-use Rattle.simplex_member.proofs.Rereading.{left-readable}
 
 module _ {S D P G C : Type 0} where
   -- a deed hands out bytes
@@ -75,15 +74,15 @@ module _ {S D P G C : Type 0} (g : Ghosts S D P G C) (f : Formats S D P G C) (sc
       (Contains-append_cases (if blocks_sender r then Blocks sender ∷ [] else []) (refusal_report g f s r (evidence_deeds g f s h sender (f.packet_in by bytes.items))) d here)
   refused-none s h e r d out here = Contains-nil d here
 
-  module _ (grows : RecordLaws g) (w : LiveByNodes g f scheme m world) (j : ℕ) (cj : IsCorrect world j) where
-    lawful : Lawful g f (m.setup j) (world.recorded j)
-    lawful = all-lives-lawful g f (m.setup j) grows (m.lives j) (world.recorded j) (w.lived j cj)
+  module _ (basis : LifeLaws g) (w : LiveByNodes g f scheme m world) (j : ℕ) (cj : IsCorrect world j) where
+    lawful : LawfulEver g f (m.setup j) (world.recorded j)
+    lawful = votes-so g f basis (m.setup j) (m.lives j) (world.recorded j) (w.lived j cj).0 (w.lived j cj).1
 
     -- of a certificate that a correct member recorded: the parent is below, and it certifies
     parent-below : (c : Certificate S D P G C) → Contains (world.recorded j) (certificate_artifact c) → HasParentBelow (certificate_statement c)
-    parent-below (certificate.Notarization c) here = let at = splits (world.recorded j) (certificate_artifact (certificate.Notarization c)) here in (lawful at.before at.behind (certificate_artifact (certificate.Notarization c)) at.is).follows.parent_below
+    parent-below (certificate.Notarization c) here = let at = splits (world.recorded j) (certificate_artifact (certificate.Notarization c)) here in (lawful at.before at.behind (certificate_artifact (certificate.Notarization c)) at.is).stands
     parent-below (certificate.Nullification c) here = tt
-    parent-below (certificate.Finalization c) here = let at = splits (world.recorded j) (certificate_artifact (certificate.Finalization c)) here in (lawful at.before at.behind (certificate_artifact (certificate.Finalization c)) at.is).follows.parent_below
+    parent-below (certificate.Finalization c) here = let at = splits (world.recorded j) (certificate_artifact (certificate.Finalization c)) here in (lawful at.before at.behind (certificate_artifact (certificate.Finalization c)) at.is).stands
 
     pub own-certifies : (c : Certificate S D P G C) → Contains (world.recorded j) (certificate_artifact c) → g.certifies (m.setup j).voter.scheme (certificate_statement c) (certified_by c)
     own-certifies (certificate.Notarization c) here = let at = splits (world.recorded j) (certificate_artifact (certificate.Notarization c)) here in (lawful at.before at.behind (certificate_artifact (certificate.Notarization c)) at.is).verifies.verifies
@@ -138,7 +137,7 @@ module _ {S D P G C : Type 0} (g : Ghosts S D P G C) (f : Formats S D P G C) (sc
       -- a certificate that it recorded can be read
       certificate-readable : (c : Certificate S D P G C) → Contains (world.recorded j) (certificate_artifact c) → IsReadable f (of_certificate c)
       certificate-readable c here = certificate-read c (back.recorded (certificate_artifact c)
-          (left-readable g f (m.setup j) (m.lives j) (world.recorded j) (w.lived j cj) (certificate_artifact c) here))
+          (all-readable g f (m.setup j) (m.lives j) (world.recorded j) (w.lived j cj).0 (w.lived j cj).1 (certificate_artifact c) here))
         where
           certificate-read : (d : Certificate S D P G C) → IfSome (packet_of (certificate_artifact d)) (IsReadable f) → IsReadable f (of_certificate d)
           certificate-read (certificate.Notarization d) read = read
@@ -152,13 +151,13 @@ module _ {S D P G C : Type 0} (g : Ghosts S D P G C) (f : Formats S D P G C) (sc
           let of = deeds-are g f at.life.setup at.h at.p (Sends to (of_ask view)) at.done in
           let all = begun-allowed g f at.life.setup at.reached.before at.h (reached-goes g f scheme m world j w cj at.life at.h at.reached) in
           let small : AreSmall (record_of at.h) = λ c here. back.views c (certificate-readable c ((reached-heard g f scheme m world j w cj at.life at.h at.reached).recorded (certificate_artifact c) here)) in
-          back.asks view (asked-low g f at.life.setup grows known at.h all small view of.0 to (subst (λ (p : Point S D P G C). Allowed g f at.life.setup at.h p) of.1 at.allowed)))
+          back.asks view (asked-low g f at.life.setup basis.records known at.h all small view of.0 to (subst (λ (p : Point S D P G C). Allowed g f at.life.setup at.h p) of.1 at.allowed)))
           (λ at. absurd (refused-none at.life.setup at.h at.e at.r (Sends to (of_ask view)) refl at.done))
           (deed-done g f scheme m world j w cj (Sends to (of_ask view)) out)
 
       -- so can all that it sends
       sent-readable : (to : Option ℕ) (x : Packet S D P G C) → HandedOut g f scheme m world j (Sends to x) → IsReadable f x
-      sent-readable to (of_vote v) out = vote-readable g f scheme m world back w j cj v (own-sound g f scheme m world grows w j cj to v out).recorded
+      sent-readable to (of_vote v) out = vote-readable g f scheme m world back w j cj v (own-sound g f scheme m world basis w j cj to v out).recorded
       sent-readable to (of_certificate c) out = certificate-readable c (sent-recorded to c out)
       sent-readable to (of_ask view) out = ask-readable to view out
 
@@ -194,7 +193,7 @@ module _ {S D P G C : Type 0} (g : Ghosts S D P G C) (f : Formats S D P G C) (sc
           }
       handed-read by bytes d out is = absurd is
 
-  module _ (grows : RecordLaws g) (laws : RoundLaws g f.same) (known : EachHistoryMatches S D P G C) (law : WhatIsProducedCame) (back : AreReadBack f) (w : LiveByNodes g f scheme m world) (faithful : AreFaithful g f scheme m world) (alike : DoAttestAlike g f scheme m world)
+  module _ (basis : LifeLaws g) (laws : RoundLaws g f.same) (known : EachHistoryMatches S D P G C) (law : WhatIsProducedCame) (back : AreReadBack f) (w : LiveByNodes g f scheme m world) (faithful : AreFaithful g f scheme m world) (alike : DoAttestAlike g f scheme m world)
       (backed : (own : S) (x : Statement D) (c : C) → g.certifies own x c → IsQuorum (g.size own) (λ k a. g.attests own k x a) (g.lists c))
       (sufficient : (own : S) (x : Statement D) (c : C) → IsQuorum (g.size own) (λ k a. g.attests own k x a) (g.lists c) → g.certifies own x c)
       (i j : ℕ) (ci : IsCorrect world i) (cj : IsCorrect world j) where
@@ -207,7 +206,7 @@ module _ {S D P G C : Type 0} (g : Ghosts S D P G C) (f : Formats S D P G C) (sc
         sufficient (m.setup i).voter.scheme x c (record { distinct = p.distinct; members = p.members; enough = p.enough; attesting = λ k d l. alike i j ci cj _ x _ (p.attesting k d l) })
 
     -- no test that blocks applies to it
-    none-first : (s : Setup S D C) → IsOfOneMember (m.setup i) s → (h : History S D P G C) (x : Packet S D P G C) → IsFine grows w j cj known law back x → ((v : Vote S D P G C) → x ≡ of_vote v → ⊥) → (r : Refusal)
+    none-first : (s : Setup S D C) → IsOfOneMember (m.setup i) s → (h : History S D P G C) (x : Packet S D P G C) → IsFine basis w j cj known law back x → ((v : Vote S D P G C) → x ≡ of_vote v → ⊥) → (r : Refusal)
         → IsFirst (sender_tests g f s j ++ packet_tests g f s h j (Some x)) (Some r) → blocks_sender r ≡ true → ⊥
     none-first s same h (of_vote v) fine unvoted r first blocks = unvoted v refl
     none-first s same h (of_certificate c) fine unvoted r first blocks =
@@ -217,9 +216,9 @@ module _ {S D P G C : Type 0} (g : Ghosts S D P G C) (f : Formats S D P G C) (sc
         ⊎_elim (λ t. spares r refusal.ViewZero t.1 refl blocks) (λ n.
         ⊎_elim (λ t. spares r refusal.OutsideWindow t.1 refl blocks) (λ n.
         ⊎_elim (λ t. spares r refusal.NoRoom t.1 refl blocks) (λ n.
-        ⊎_elim (λ t. t.0 (parent-below grows w j cj c fine)) (λ n.
+        ⊎_elim (λ t. t.0 (parent-below basis w j cj c fine)) (λ n.
         ⊎_elim (λ t. spares r refusal.Repeated t.1 refl blocks) (λ n.
-        ⊎_elim (λ t. t.0 (subst (λ (own : S). g.certifies own (certificate_statement c) (certified_by c)) (sym same.scheme) (certifies-alike (certificate_statement c) (certified_by c) (own-certifies grows w j cj c fine)))) (λ n. none-some r (sym n.1)) n.1) n.1) n.1) n.1) n.1) n.1) n.1) n.1) first
+        ⊎_elim (λ t. t.0 (subst (λ (own : S). g.certifies own (certificate_statement c) (certified_by c)) (sym same.scheme) (certifies-alike (certificate_statement c) (certified_by c) (own-certifies basis w j cj c fine)))) (λ n. none-some r (sym n.1)) n.1) n.1) n.1) n.1) n.1) n.1) n.1) n.1) first
     none-first s same h (of_ask view) fine unvoted r first blocks =
         ⊎_elim (λ t. spares r refusal.UnknownSender t.1 refl blocks) (λ n.
         ⊎_elim (λ t. spares r refusal.OwnName t.1 refl blocks) (λ n.
@@ -236,11 +235,11 @@ module _ {S D P G C : Type 0} (g : Ghosts S D P G C) (f : Formats S D P G C) (sc
         (λ report. absurd (report-spares g f s is.r (evidence_deeds g f s h sender o) j (evidence-spares g f s h sender o j) report))
         (Contains-append_cases (if blocks_sender is.r then Blocks sender ∷ [] else []) (refusal_report g f s is.r (evidence_deeds g f s h sender o)) (Blocks j) blocks) in
         let by_deed = faithful.handed i j is.e by bytes.items ci cj is.handed (subst (λ (x : Event D). Carries g f scheme m world x j by bytes.items) (sym same) (holds.0, refl, refl)) in
-        let of = handed-read grows w j cj known law back by bytes.items by_deed.0 by_deed.1 by_deed.2 in
+        let of = handed-read basis w j cj known law back by bytes.items by_deed.0 by_deed.1 by_deed.2 in
         none-first s is.own h of.x of.fine (λ v e. holds.1 v (of.is ∙ ap (λ (x : Packet S D P G C). Some x) e)) is.r
         (subst (λ (x : Option (Packet S D P G C)). IsFirst (sender_tests g f s j ++ packet_tests g f s h j x) (Some is.r)) of.is
         (subst (λ (k : ℕ). IsFirst (sender_tests g f s k ++ packet_tests g f s h k o) (Some is.r)) holds.0 first)) who.0
     none-refused e is same holds = absurd holds
 
     pub none-blamed : HandedOut g f scheme m world i (Blocks j) → ⊥
-    none-blamed out = let by = refused-alone g f scheme m world i grows laws back w faithful alike j ci cj out in none-refused by.0.e by.0 refl by.1
+    none-blamed out = let by = refused-alone g f scheme m world i laws basis back w faithful alike j ci cj out in none-refused by.0.e by.0 refl by.1

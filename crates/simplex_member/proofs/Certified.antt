@@ -32,7 +32,7 @@ use Rattle.simplex_member.specs.declared.event.Event.TheVariants as event
 use Rattle.simplex_member.specs.declared.refusal.Refusal.{Refusal}
 use Rattle.simplex_member.specs.declared.refusal.Refusal.TheVariants as refusal
 use Rattle.simplex_member.specs.Deeds.{Deed, Blocks, Reports}
-use Rattle.simplex_member.specs.Laws.{RecordLaws, reported_certificate}
+use Rattle.simplex_member.specs.Laws.{LifeLaws, reported_certificate}
 use Rattle.simplex_member.specs.Layers.{votes_of, votes_setup}
 use Rattle.simplex_member.specs.Lives.{HandedOut, LiveByNodes, Members}
 use Rattle.simplex_member.specs.Packet.{Formats, Packet, of_vote}
@@ -116,7 +116,7 @@ module _ {S D P G C : Type 0} (g : Ghosts S D P G C) (f : Formats S D P G C) (s 
       (Contains-append_cases (if blocks_sender r then Blocks sender ∷ [] else []) (refusal_report g f s r (evidence_deeds g f s h sender (f.packet_in by bytes.items))) (Reports a) here)
   refused-is h e r a here = absurd (Contains-nil (Reports a) here)
 
-module _ {S D P G C : Type 0} (g : Ghosts S D P G C) (f : Formats S D P G C) (scheme : S) (m : Members S D P G C) (world : World S D P G C) (grows : RecordLaws g) (w : LiveByNodes g f scheme m world) (size : g.size scheme ≡ world.size)
+module _ {S D P G C : Type 0} (g : Ghosts S D P G C) (f : Formats S D P G C) (scheme : S) (m : Members S D P G C) (world : World S D P G C) (basis : LifeLaws g) (w : LiveByNodes g f scheme m world) (size : g.size scheme ≡ world.size)
     (backed : (own : S) (x : Statement D) (c : C) → g.certifies own x c → IsQuorum (g.size own) (λ k a. g.attests own k x a) (g.lists c))
     (sufficient : (own : S) (x : Statement D) (c : C) → IsQuorum (g.size own) (λ k a. g.attests own k x a) (g.lists c) → g.certifies own x c) (i : ℕ) (correct : IsCorrect world i) where
   -- a certificate that a correct member reports it recorded
@@ -137,7 +137,7 @@ module _ {S D P G C : Type 0} (g : Ghosts S D P G C) (f : Formats S D P G C) (sc
   pub reported-certifies : (a : Activity S D P G C) → HandedOut g f scheme m world i (Reports a) → (c : Certificate S D P G C) → reported_certificate a ≡ Some c → g.certifies scheme (certificate_statement c) (certified_by c)
   reported-certifies a out c is =
       let own = (m.setup i).voter.scheme in
-      let q = backed own (certificate_statement c) (certified_by c) (own-certifies g f scheme m world grows w i correct c (reported-recorded a out c is)) in
+      let q = backed own (certificate_statement c) (certified_by c) (own-certifies g f scheme m world basis w i correct c (reported-recorded a out c is)) in
       let sizes : g.size own ≡ g.size scheme = (w.alike i correct).size_is ∙ sym size in
       let p = subst (λ (n : ℕ). IsQuorum n (λ k b. g.attests own k (certificate_statement c) b) (g.lists (certified_by c))) sizes q in
       sufficient scheme (certificate_statement c) (certified_by c) (record { distinct = p.distinct; members = p.members; enough = p.enough; attesting = λ k d l. (w.alike i correct).attests_too _ _ _ (p.attesting k d l) })

@@ -18,7 +18,7 @@ use Rattle.simplex_member.specs.Doing.{Doing, IsAmong, Once, doing, doings, most
 use Rattle.simplex_member.specs.Laws.{RoundLaws}
 use Rattle.simplex_member.specs.Member.{Goes}
 use Rattle.simplex_member.specs.Packet.{Formats}
-use Rattle.simplex_member.specs.Point.{Point, Opened, Found, Began, Told, Heard, Came, Wanted, Built, Checked, Judged, AsksBuild, AsksVerify, GivesBack, LeavesBehind, Resolves, AreActs, History, is_act}
+use Rattle.simplex_member.specs.Point.{Point, Opened, Found, Began, Told, Heard, Came, Wanted, Built, Checked, Judged, AsksBuild, AsksVerify, GivesBack, LeavesBehind, Resolves, Rewrote, AreActs, History, is_act}
 use Rattle.simplex_member.specs.Setup.{Setup}
 use Rattle.simplex_member.proofs.Lacking.{missing-below}
 use Rattle.simplex_member.proofs.Once.{done-once, standing-below}
@@ -204,6 +204,7 @@ module _ {S D P G C : Type 0} (g : Ghosts S D P G C) (f : Formats S D P G C) (s 
     act-numbered (Built number handoff context payload took) h all a own = absurd (apart own)
     act-numbered (Checked number view answer outcome) h all a own = absurd (apart own)
     act-numbered (Judged r ok) h all a own = absurd (apart own)
+    act-numbered (Rewrote c) h all a own = absurd (apart own)
     act-numbered (AsksBuild number handoff context) h all a own = let left = a.due.left in let next = a.due.next in omega (arith, left, next)
     act-numbered (AsksVerify number context p) h all a own = let left = a.due.left in let next = a.due.next in omega (arith, left, next)
     act-numbered (GivesBack number view) h all a own =

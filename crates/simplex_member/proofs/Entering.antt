@@ -24,7 +24,7 @@ use Rattle.voter_history.specs.Past as past
 use Rattle.voter_rules.specs.Answers.{best_certificate, covering_nullification, entry_certificate, last_of}
 use Rattle.voter_rules.specs.Building.{proposal_on}
 use Rattle.simplex_member.specs.Layers.{casts, finalizes_above, finds, latest, reason_of, takes_certificate, takes_outcome, voter_of, voter_points}
-use Rattle.simplex_member.specs.Point.{Outcome, Counts, Falls, Passes, Point, Opened, Found, Began, Came, Built, Checked, Judged, Forwards, Constructs, Latches, Polls, AsksBuild, AsksVerify, AsksCertify, GivesBack, PutsOff, Resolves, Votes, Repeats, History}
+use Rattle.simplex_member.specs.Point.{Outcome, Counts, Falls, Passes, Point, Opened, Found, Began, Came, Built, Checked, Judged, Forwards, Constructs, Latches, Polls, AsksBuild, AsksVerify, AsksCertify, GivesBack, PutsOff, Resolves, Votes, Repeats, Rewrote, History}
 use Rattle.simplex_member.specs.Recorded.{record_of, recorded_by}
 use Rattle.simplex_member.specs.Setup.{Setup}
 use Rattle.simplex_member.proofs.Lists.{put-before, put-here, some-is}
@@ -265,7 +265,7 @@ module _ {S D P G C : Type 0} (p : Point S D P G C) where
 
 module _ {S D P G C : Type 0} (s : Setup S D C) where
   point-records : (now low : ℕ) (p : Point S D P G C) → Records p (voter_points s now low p)
-  point-records now low (Opened t) = records-plain (Opened t) (views.started t (Some s.genesis)) [] refl (records-nil (Opened t))
+  point-records now low (Opened t) = records-plain (Opened t) (views.started t s.genesis) [] refl (records-nil (Opened t))
   point-records now low (Found x taken) = found-records (Found x taken) now x taken refl
   point-records now low Began = records-plain Began views.pruned [] refl (records-nil Began)
   point-records now low (Came c) = takes-records (Came c) now low c refl
@@ -286,6 +286,7 @@ module _ {S D P G C : Type 0} (s : Setup S D C) where
   point-records now low (Resolves view kind_ u) = records-plain (Resolves view kind_ u) (views.ancestry_asked view u) [] refl (records-nil (Resolves view kind_ u))
   point-records now low (Votes v) = casts-records (Votes v) v
   point-records now low (Repeats v best) = records-plain (Repeats v best) (views.voted_nullify v.round.view) [] refl (records-nil (Repeats v best))
+  point-records now low (Rewrote c) = records-plain (Rewrote c) (views.based c.proposal.round.view) [] refl (records-nil (Rewrote c))
   point-records now low p = records-nil p
 
   -- what came to the voter is recorded

@@ -1,9 +1,9 @@
 -- The certificates that correct members recorded are honest.
-use Rattle.std.proofs.Common.{◌≡◌, ⊎_elim, ℕ, false, List, [], ◌∷◌, Option, Some, None, refl, sym, ◌∙◌, ap, subst, arith}
-use Rattle.std.specs.Prelude.{Contains, option_map, option_to_list, ⊤}
+use Rattle.std.proofs.Common.{◌≡◌, ◌⊎◌, inl, inr, ⊎_elim, ℕ, Bool, true, false, List, [], ◌∷◌, ◌++◌, Option, Some, None, refl, sym, ◌∙◌, ap, subst, arith}
+use Rattle.std.specs.Prelude.{Contains, if◌then◌else◌, nat_lt, option_map, option_to_list, ⊤}
 use Rattle.std.proofs.lemmas.Option.{none-some}
-use Rattle.std.proofs.lemmas.List.Elements.{Contains-append_left, Contains-append_right}
-use Rattle.types_quorum.specs.Counting.{Contains-head, Contains-rest}
+use Rattle.std.proofs.lemmas.List.Elements.{Contains-append_cases, Contains-append_left, Contains-append_right}
+use Rattle.types_quorum.specs.Counting.{Contains-cases, Contains-head, Contains-nil, Contains-rest}
 use Rattle.types_core.specs.declared.attestation.Attestation.{Attestation}
 use Rattle.types_core.specs.declared.scheme.Scheme.{Ghosts}
 use Rattle.types_core.specs.Subject.{Statement}
@@ -14,22 +14,23 @@ use Rattle.messages_certificates.specs.declared.certificate.Certificate.TheVaria
 use Rattle.simplex_messages.specs.declared.vote.Vote.{Vote}
 use Rattle.simplex_messages.specs.declared.vote.Vote.TheVariants as vote
 use Rattle.messages_certificates.specs.Artifact.{certificate_artifact}
+use Rattle.messages_certificates.specs.ProposalCertificate.{Finalization}
 use Rattle.simplex_messages.specs.VoteParts.{vote_artifact}
 use Rattle.messages_certificates.specs.Certificate.{certificate_statement, certified_by}
-use Rattle.simplex_record.specs.Record.{Entry, entry, entries, HasVoted}
+use Rattle.simplex_record.specs.Record.{Entry, entry, entries, last_finalized, HasVoted}
 use Rattle.simplex_record.specs.World.{World, IsCorrect, IsHonest}
 use Rattle.batcher_verifier.specs.Votes.{vote_attestation, vote_statement}
 use Rattle.simplex_member.specs.declared.event.Event.{Event}
 use Rattle.simplex_member.specs.Allowed.{Allowed, AreAllowed}
 use Rattle.simplex_member.specs.Laws.{IsKnownVote, IsOfVote, RecordedAreHonest, RoundLaws}
-use Rattle.simplex_member.specs.Lives.{Course, Life, Broken, Lasting, Turn, Refuses, Went, IsCut, IsHonestVote, LiveByNodes, CameIn, Lived, Lives, Members, Turns, WasHanded, events_of, turn_events}
-use Rattle.simplex_member.specs.Member.{AreOpening, AreStep, Goes, IsPacketPoint}
+use Rattle.simplex_member.specs.Lives.{Appends, Course, Life, Broken, Lasting, Turn, Refuses, Rewrites, Went, IsCut, IsHonestVote, LiveByNodes, CameIn, Lived, Lives, Members, Turns, WasHanded, events_of, turn_events}
+use Rattle.simplex_member.specs.Member.{AppendsFloor, AreOpening, AreStep, Goes, IsPacketPoint}
 use Rattle.simplex_member.specs.Packet.{Formats, Packet, of_vote, of_certificate, of_ask}
-use Rattle.simplex_member.specs.Point.{Point, Found, Heard, Came, Wanted, Judged, Constructs, Votes, History}
-use Rattle.simplex_member.specs.Recorded.{record_of, recorded_by}
+use Rattle.simplex_member.specs.Point.{Point, Found, Heard, Came, Wanted, Judged, Constructs, Votes, Rewrote, History}
+use Rattle.simplex_member.specs.Recorded.{fresh_of, kept_of, record_of, recorded_by}
 use Rattle.simplex_member.specs.Setup.{Setup}
 use Rattle.simplex_member.proofs.Feeding.{Each, each-there, goes-each, opening-each, step-each, takes_in}
-use Rattle.simplex_member.proofs.Keeping.{life-allowed, lives-keep}
+use Rattle.simplex_member.proofs.Keeping.{ended-part, fresh-recorded, kept-part, life-allowed, lives-keep}
 use Rattle.simplex_member.proofs.Ballots.{made-lists}
 use Rattle.simplex_member.proofs.Sameness.{mine-of}
 use Rattle.simplex_member.proofs.Telling.{apart}
@@ -170,6 +171,7 @@ module _ {S D P G C : Type 0} (g : Ghosts S D P G C) (f : Formats S D P G C) (sc
       turns-fed h (Refuses e r ∷ turns) end t handed fed = turns-fed h turns end t.1 (λ x there. handed x (Contains-rest e (turn_events turns) x there)) fed
       turns-fed h (Went e points ∷ turns) end t handed fed = turns-fed t.0 turns end t.3 (λ x there. handed x (Contains-rest e (turn_events turns) x there))
           (goes-fed h points t.0 t.2.goes (step-fed h e points (handed e (Contains-head e (turn_events turns))) t.1) fed)
+      turns-fed h (Rewrites c ∷ turns) end t handed fed = turns-fed (Rewrote c ∷ h) turns end t.1 handed (tt, fed)
 
       cut-fed : (h : History S D P G C) (cut : Option (Event D × List (Point S D P G C))) (end : History S D P G C) → IsCut g f s h cut end
           → ((e : Event D) → Contains (option_to_list (option_map (λ (c : Event D × List (Point S D P G C)). c.0) cut)) e → WasHanded g f scheme m world i e) → AreFed h → AreFed end
@@ -185,21 +187,53 @@ module _ {S D P G C : Type 0} (g : Ghosts S D P G C) (f : Formats S D P G C) (sc
           (turns-fed lived.0 turns lived.1 lived.4 (λ e there. handed e (Contains-append_left (turn_events turns) cuts e there))
           (goes-fed [] points lived.0 lived.3.goes (opening-fed now found points lived.2 honest) tt))
 
+  -- a floor that is appended is the one that was brought
+  appended-honest : (brought : Option (Finalization S D P G C)) (found founded : List (Artifact S D P G C)) → AppendsFloor brought found founded
+      → ((c : Finalization S D P G C) → brought ≡ Some c → Honest (certificate.Finalization c)) → HonestAll founded
+  appended-honest None found founded appends floors x d here is = absurd (Contains-nil x (subst (λ (l : List (Artifact S D P G C)). Contains l x) appends here))
+  appended-honest (Some c) found founded appends floors x d here is = go (nat_lt (last_finalized (entries found)) c.proposal.round.view) (subst (λ (l : List (Artifact S D P G C)). Contains l x) appends here)
+    where
+      go : (b : Bool) → Contains (if b then artifact.Finalization c ∷ [] else []) x → Honest d
+      go true there = ⊎_elim
+          (λ same. subst (λ (e : Certificate S D P G C). Honest e) (some-is (certificate.Finalization c) d (ap as_certificate same ∙ is)) (floors c refl))
+          (λ later. absurd (Contains-nil x later))
+          (Contains-cases (artifact.Finalization c) [] x there)
+      go false none = absurd (Contains-nil x none)
+
   module _ (laws : RoundLaws g f.same) (i : ℕ) (w : LiveByNodes g f scheme m world) (correct : IsCorrect world i) where
-    -- lives, one after the other, leave honest certificates
-    lives-honest : (found : List (Artifact S D P G C)) (lives : List (Life S D P G C)) (left : List (Artifact S D P G C)) → Lives g f (m.setup i) found lives left → HonestAll found
-        → ((life : Life S D P G C) → Contains lives life → Contains (m.lives i) life) → ((x : Artifact S D P G C) → Contains left x → Contains (world.recorded i) x) → HonestAll left
-    lives-honest found [] left is honest among part = subst (λ (r : List (Artifact S D P G C)). HonestAll r) (sym is) honest
-    lives-honest found (life ∷ lives) left all honest among part =
+    -- the floor that an opening recorded was brought
+    founded-honest : (course : Course S D P G C) (brought : Option (Finalization S D P G C)) (found founded : List (Artifact S D P G C)) → Appends g f course brought found founded
+        → ((c : Finalization S D P G C) → brought ≡ Some c → Honest (certificate.Finalization c)) → HonestAll founded
+    founded-honest (Broken now points) brought found founded (inl none) floors x d here is = absurd (Contains-nil x (subst (λ (l : List (Artifact S D P G C)). Contains l x) none here))
+    founded-honest (Broken now points) brought found founded (inr appends) floors x d here is = appended-honest brought found founded appends floors x d here is
+    founded-honest (Lasting now points turns cut) brought found founded appends floors x d here is = appended-honest brought found founded appends floors x d here is
+
+    -- lives, one after the other, record honest certificates
+    lives-honest : (ever found : List (Artifact S D P G C)) (lives : List (Life S D P G C)) (all left : List (Artifact S D P G C)) → Lives g f (m.setup i) ever found lives all left → HonestAll ever
+        → ((x : Artifact S D P G C) → Contains found x → Contains ever x) → ((life : Life S D P G C) → Contains lives life → Contains (m.lives i) life)
+        → ((x : Artifact S D P G C) → Contains all x → Contains (world.recorded i) x) → HonestAll all
+    lives-honest ever found [] all left is honest part among whole = subst (λ (r : List (Artifact S D P G C)). HonestAll r) (sym is.0) honest
+    lives-honest ever found (life ∷ lives) all left led honest part among whole =
         let s = life.setup in
-        let mine = mine-of g f scheme m world w i correct s all.3 in
-        let fed = life-fed laws i s mine w correct found life.course all.0 all.1 honest (λ e there. (life, among life (Contains-head life lives), there)) in
-        let allowed = life-allowed g f s found life.course all.0 all.1 in
-        lives-honest (record_of all.0) lives left all.2
-        (record-honest laws i s mine all.0 allowed fed (λ x there. part x (lives-keep g f (m.setup i) (record_of all.0) lives left all.2 x there)))
-        (λ l there. among l (Contains-rest life lives l there)) part
+        let end = led.0 in
+        let ever_then = ever ++ (life.founded ++ fresh_of end) in
+        let kept_then = kept_of s.voter.length end in
+        let mine = mine-of g f scheme m world w i correct s led.4 in
+        let floor = founded-honest life.course life.brought found life.founded led.1.appends
+        (λ c is. w.floors i correct (certificate.Finalization c) (life, among life (Contains-head life lives), ap (λ (o : Option (Finalization S D P G C)). option_map certificate.Finalization o) is)) in
+        let both : HonestAll (found ++ life.founded) = λ x d there is. ⊎_elim (λ old. honest x d (part x old) is) (λ new. floor x d new is) (Contains-append_cases found life.founded x there) in
+        let fed = life-fed laws i s mine w correct (found ++ life.founded) life.course end led.2 both (λ e there. (life, among life (Contains-head life lives), there)) in
+        let allowed = life-allowed g f s (found ++ life.founded) life.course end led.2 in
+        let ended = record-honest laws i s mine end allowed fed
+        (λ x there. whole x (lives-keep g f (m.setup i) ever_then kept_then lives all left led.3 x (ended-part g f (m.setup i) ever found life end led.2 part x there))) in
+        lives-honest ever_then kept_then lives all left led.3
+        (λ x d there is. ⊎_elim
+        (λ old. honest x d old is)
+        (λ new. ⊎_elim (λ at. floor x d at is) (λ fresh. ended x d (fresh-recorded s end x fresh) is) (Contains-append_cases life.founded (fresh_of end) x new))
+        (Contains-append_cases ever (life.founded ++ fresh_of end) x there))
+        (kept-part g f (m.setup i) ever found life end led.2 part) (λ l there. among l (Contains-rest life lives l there)) whole
 
   pub recorded-honest : RoundLaws g f.same → LiveByNodes g f scheme m world → RecordedAreHonest g f scheme m world
   recorded-honest laws w i correct c here =
-      lives-honest laws i w correct [] (m.lives i) (world.recorded i) (w.lived i correct)
-      (λ x d there is. absurd (omega (arith, there.1))) (λ life there. there) (λ x there. there) (certificate_artifact c) c here (as-is c)
+      lives-honest laws i w correct [] [] (m.lives i) (world.recorded i) (w.lived i correct).0 (w.lived i correct).1
+      (λ x d there is. absurd (omega (arith, there.1))) (λ x there. there) (λ life there. there) (λ x there. there) (certificate_artifact c) c here (as-is c)

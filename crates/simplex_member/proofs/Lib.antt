@@ -62,3 +62,8 @@ mod Lacking
 mod Once
 mod Ending
 mod Ranging
+mod Kept
+mod Low
+mod Floored
+mod Three
+mod Above

@@ -13,6 +13,21 @@ some-is {X} x y e = ap (λ (o : Option X). unwrap_or o x) e
 pub same-number : (a b : ℕ) → a ≡ b → (a == b) ≡ true
 same-number a b e = grind (arith, e)
 
+-- lists that are one begin alike, and go on alike
+pub same-first : {X : Type 0} (x y : X) (xs ys : List X) → x ∷ xs ≡ y ∷ ys → x ≡ y
+same-first {X} x y xs ys is = ap first is
+  where
+    first : List X → X
+    first [] = x
+    first (z ∷ zs) = z
+
+pub same-rest : {X : Type 0} (x y : X) (xs ys : List X) → x ∷ xs ≡ y ∷ ys → xs ≡ ys
+same-rest {X} x y xs ys is = ap rest is
+  where
+    rest : List X → List X
+    rest [] = []
+    rest (z ∷ zs) = zs
+
 -- a list that isn't empty has an element
 pub some-of : {X : Type 0} (xs : List X) → 1 ≤ length xs → (x : X) × Contains xs x
 some-of [] some = absurd (omega (arith, some))

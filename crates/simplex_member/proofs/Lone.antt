@@ -53,7 +53,7 @@ use Rattle.simplex_member.specs.Laws.{IsKeptView, RecordLaws, RoundLaws, raises}
 use Rattle.simplex_member.specs.Layers.{all_votes, current_of, finalized_of, finalizes_above, floor_of, has_room, known_of, latest, opened, opens, passes_over, stage, takes_certificate, voter_of, voter_points, votes_of, IsUp, first_up}
 use Rattle.simplex_member.specs.Member.{AreStep, Goes, IsPacketPoint, IsPointOf}
 use Rattle.simplex_member.specs.Packet.{Formats, Packet, of_ask, of_certificate, of_vote}
-use Rattle.simplex_member.specs.Point.{Counts, Falls, Passes, AreActs, Point, Opened, Found, Began, Told, Heard, Came, Wanted, Built, Checked, Judged, Leads, Forwards, Constructs, Latches, Polls, AsksBuild, AsksVerify, AsksCertify, GivesBack, LeavesBehind, PutsOff, Asks, Resolves, Votes, Repeats, History, is_act}
+use Rattle.simplex_member.specs.Point.{Counts, Falls, Passes, AreActs, Point, Opened, Found, Began, Told, Heard, Came, Wanted, Built, Checked, Judged, Leads, Forwards, Constructs, Latches, Polls, AsksBuild, AsksVerify, AsksCertify, GivesBack, LeavesBehind, PutsOff, Asks, Resolves, Votes, Repeats, Rewrote, History, is_act}
 use Rattle.simplex_member.specs.Recorded.{record_of, recorded_by}
 use Rattle.simplex_member.specs.Setup.{Setup, DeadlinesLieAhead, GoesByMembers, IsInTime, member_of}
 use Rattle.simplex_member.proofs.Ballots.{collected-up, stage-kept}
@@ -449,6 +449,7 @@ module _ {S D P G C : Type 0} (g : Ghosts S D P G C) (f : Formats S D P G C) (s 
         act-puts (Votes (vote.Nullify v)) h all q act now low view enters_so = (λ e. tt, tt)
         act-puts (Votes (vote.Finalize v)) h all q act now low view enters_so = (tt, tt)
         act-puts (Repeats v best) h all q act now low view enters_so = (λ e. tt, tt)
+        act-puts (Rewrote c) h all q act now low view enters_so = absurd (apart act)
 
         -- a view that is judged was tracked
         judged-tracked : (r : Round) (ok : Bool) → Allowed g f s start (Judged r ok) → IsTracked s.voter (voter_of s start) r.view

@@ -33,7 +33,7 @@ use Rattle.simplex_member.specs.Layers.{all_votes, current_of, is_begun, latest,
 use Rattle.simplex_member.specs.Laws.{RoundLaws}
 use Rattle.simplex_member.specs.Member.{Goes}
 use Rattle.simplex_member.specs.Packet.{Formats}
-use Rattle.simplex_member.specs.Point.{Point, Opened, Found, Began, Told, Heard, Came, Wanted, Built, Checked, Leads, Forwards, Constructs, Latches, Polls, AsksBuild, AsksVerify, AsksCertify, GivesBack, LeavesBehind, PutsOff, Asks, Resolves, Votes, Repeats, AreActs, History, is_act}
+use Rattle.simplex_member.specs.Point.{Point, Opened, Found, Began, Told, Heard, Came, Wanted, Built, Checked, Leads, Forwards, Constructs, Latches, Polls, AsksBuild, AsksVerify, AsksCertify, GivesBack, LeavesBehind, PutsOff, Asks, Resolves, Votes, Repeats, Rewrote, AreActs, History, is_act}
 use Rattle.simplex_member.specs.Point as point
 use Rattle.simplex_member.specs.Setup.{Setup}
 use Rattle.simplex_member.proofs.Adding.{act-adds}
@@ -222,6 +222,7 @@ module _ {S D P G C : Type 0} (g : Ghosts S D P G C) (f : Formats S D P G C) (s 
     done-now (Built number handoff context payload took) h all a own = absurd (apart own)
     done-now (Checked number view answer outcome) h all a own = absurd (apart own)
     done-now (point.Judged r ok) h all a own = absurd (apart own)
+    done-now (Rewrote c) h all a own = absurd (apart own)
     done-now (Leads view index) h all a own = subst (λ (r : votes.History S D P G C). IsSome (leader_of r)) (sym (now-at view (Led index) (all_votes view h))) refl
     done-now (Forwards view p) h all a own = subst (λ (r : votes.History S D P G C). has_forwarded r ≡ true) (sym (now-at view Forwarded (all_votes view h))) refl
     done-now (Constructs view kind batch) h all a own = constructed h view kind batch a
@@ -344,6 +345,7 @@ module _ {S D P G C : Type 0} (g : Ghosts S D P G C) (f : Formats S D P G C) (s 
     done-bars (Built number handoff context payload took) h all a own done = apart own
     done-bars (Checked number view answer outcome) h all a own done = apart own
     done-bars (point.Judged r ok) h all a own done = apart own
+    done-bars (Rewrote c) h all a own done = apart own
     done-bars (Leads view index) h all a own done = some-apart (leader_of (all_votes view h)) (subst (λ (r : votes.History S D P G C). leader_of r ≡ None) (votes-kept h view a.due.0) a.due.1) done
     done-bars (Forwards view p) h all a own done =
         apart (sym (unforwarded (all_votes view h) s.me p (subst (λ (r : votes.History S D P G C). forwardable r s.me ≡ Some p) (votes-kept h view a.due.0) a.due.1)) ∙ done)

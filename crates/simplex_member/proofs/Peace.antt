@@ -16,7 +16,8 @@ use Rattle.simplex_messages.specs.VoteParts.{vote_round, vote_signer}
 use Rattle.batcher_admission.specs.Evidence.{AreForTwo}
 use Rattle.batcher_admission.specs.Blocking.{Offends}
 use Rattle.simplex_batcher.specs.Admission.{IsBlocked}
-use Rattle.simplex_record.specs.Lawful.{Fits}
+use Rattle.simplex_record.specs.Lawful.{EverStands}
+use Rattle.simplex_record.specs.Rules.{MayFollow, StandsByVotes}
 use Rattle.simplex_record.specs.Record.{Entry, entry, entries}
 use Rattle.types_terms.specs.declared.kind.Kind.{Kind}
 use Rattle.batcher_verifier.specs.declared.batch.Batch.{Batch}
@@ -25,17 +26,17 @@ use Rattle.simplex_record.specs.World.{World, IsCorrect}
 use Rattle.batcher_verifier.specs.Votes.{is_in_way, vote_attestation, vote_kind, vote_statement}
 use Rattle.batcher_verifier.specs.History.{accepted, is_kept_in_full, recorded}
 use Rattle.simplex_member.specs.Allowed.{Allowed, AreAllowed}
-use Rattle.simplex_member.specs.Laws.{AreReadBack, DoAttestAlike, HasHeard, IsKnownVote, IsOwnAndSound, RecordLaws, RoundLaws}
+use Rattle.simplex_member.specs.Laws.{AreReadBack, DoAttestAlike, HasHeard, IsKnownVote, IsOwnAndSound, LifeLaws, RoundLaws}
 use Rattle.simplex_member.specs.Layers.{all_votes, floor_of, votes_of, votes_setup}
 use Rattle.simplex_member.specs.Lives.{AreFaithful, CameIn, LiveByNodes, Members}
 use Rattle.simplex_member.specs.Packet.{Formats, of_vote}
 use Rattle.simplex_member.specs.Point.{Constructs, History}
 use Rattle.simplex_member.specs.Setup.{IsOfOneMember, Setup, owner_of}
 use Rattle.simplex_member.proofs.Ballots.{collected-up, none-in-way, votes-lawful, way-signer}
-use Rattle.simplex_member.proofs.Blame.{came-sound, splits}
+use Rattle.simplex_member.proofs.Blame.{LawfulEver, came-sound, splits}
 use Rattle.simplex_member.proofs.Going.{Lawful}
 use Rattle.simplex_member.proofs.Listed.{accepted-known, kept-only, signer-of, vote-entry}
-use Rattle.simplex_member.proofs.Living.{all-lives-lawful}
+use Rattle.simplex_member.proofs.Living.{votes-so}
 use Rattle.simplex_member.proofs.Lists.{Contains-map, some-is}
 use Rattle.simplex_member.proofs.Sameness.{mine-of}
 
@@ -121,30 +122,48 @@ module _ {S D P G C : Type 0} (g : Ghosts S D P G C) (f : Formats S D P G C) (s 
       none-in-way s.voter.length (entries b.before) v u fits.follows
       (subst (λ (e : Entry D). Contains (entries b.before) e) (vote-entry u) (Contains-map entry b.before (vote_artifact u) b.there)) at way
 
-  pub one-a-way : (r : List (Artifact S D P G C)) → Lawful g f s r → (v u : Vote S D P G C) → Contains r (vote_artifact v) → Contains r (vote_artifact u) → (vote_round u).view ≡ (vote_round v).view → is_in_way v u ≡ true → u ≡ v
-  one-a-way r lawful v u here there at way = ⊎_elim
+  pub one-way : (r : List (Artifact S D P G C)) (v u : Vote S D P G C) → (Before r (vote_artifact u) (vote_artifact v) → ⊥) → (Before r (vote_artifact v) (vote_artifact u) → ⊥)
+      → Contains r (vote_artifact v) → Contains r (vote_artifact u) → u ≡ v
+  one-way r v u none never here there = ⊎_elim
       (λ same. some-is u v (sym (vote-is u) ∙ (ap as_vote same ∙ vote-is v)))
-      (λ apart. ⊎_elim
-      (λ first. absurd (behind-none r lawful v u first at way))
-      (λ last. absurd (behind-none r lawful u v last (sym at) (way-turned v u way)))
-      apart)
+      (λ apart. absurd (⊎_elim none never apart))
       (ordered r (vote_artifact u) (vote_artifact v) there here)
+
+  pub one-a-way : (r : List (Artifact S D P G C)) → Lawful g f s r → (v u : Vote S D P G C) → Contains r (vote_artifact v) → Contains r (vote_artifact u) → (vote_round u).view ≡ (vote_round v).view → is_in_way v u ≡ true → u ≡ v
+  one-a-way r lawful v u here there at way =
+      one-way r v u (λ first. behind-none r lawful v u first at way) (λ last. behind-none r lawful u v last (sym at) (way-turned v u way)) here there
+
+  -- and of all that was ever recorded
+  votes-follow : (before : List (Entry D)) (v : Vote S D P G C) → StandsByVotes s.voter.length before (entry (vote_artifact v)) → MayFollow s.voter.length before (entry (vote_artifact v))
+  votes-follow before (vote.Notarize v) stands = stands
+  votes-follow before (vote.Nullify v) stands = stands
+  votes-follow before (vote.Finalize v) stands = stands
+
+  ever-none : (r : List (Artifact S D P G C)) → LawfulEver g f s r → (v u : Vote S D P G C) → Before r (vote_artifact u) (vote_artifact v) → (vote_round u).view ≡ (vote_round v).view → is_in_way v u ≡ true → ⊥
+  ever-none r lawful v u b at way =
+      let fits = lawful b.before b.behind (vote_artifact v) b.is in
+      none-in-way s.voter.length (entries b.before) v u (votes-follow (entries b.before) v fits.stands)
+      (subst (λ (e : Entry D). Contains (entries b.before) e) (vote-entry u) (Contains-map entry b.before (vote_artifact u) b.there)) at way
+
+  pub ever-a-way : (r : List (Artifact S D P G C)) → LawfulEver g f s r → (v u : Vote S D P G C) → Contains r (vote_artifact v) → Contains r (vote_artifact u) → (vote_round u).view ≡ (vote_round v).view → is_in_way v u ≡ true → u ≡ v
+  ever-a-way r lawful v u here there at way =
+      one-way r v u (λ first. ever-none r lawful v u first at way) (λ last. ever-none r lawful u v last (sym at) (way-turned v u way)) here there
 
 module _ {S D P G C : Type 0} (g : Ghosts S D P G C) (f : Formats S D P G C) (scheme : S) (m : Members S D P G C) (world : World S D P G C) where
   -- no vote of a correct member contradicts what a correct one heard
-  pub none-contradicts : RecordLaws g → AreReadBack f → LiveByNodes g f scheme m world → AreFaithful g f scheme m world → (i j : ℕ) → IsCorrect world i → IsCorrect world j
+  pub none-contradicts : LifeLaws g → AreReadBack f → LiveByNodes g f scheme m world → AreFaithful g f scheme m world → (i j : ℕ) → IsCorrect world i → IsCorrect world j
       → (s : Setup S D C) → IsOfOneMember (m.setup i) s → (h : History S D P G C) → AreAllowed g f s h → HasHeard g f scheme m world i h → (v : Vote S D P G C) → CameIn g f scheme m world i j (of_vote v)
       → IsBlocked (votes_setup s g h (vote_round v).view) (votes_of s h (vote_round v).view) j v → ⊥
-  none-contradicts grows back w faithful i j ci cj s own_setup h all heard v came blocked = ⊎_elim
+  none-contradicts basis back w faithful i j ci cj s own_setup h all heard v came blocked = ⊎_elim
       (λ named. named (sym sound.signer))
       (λ offends. go (recorded (votes_of s h (vote_round v).view) v) refl offends.2)
       blocked
     where
       sound : IsOwnAndSound world j v
-      sound = came-sound g f scheme m world grows back w faithful i j ci cj v came
+      sound = came-sound g f scheme m world basis back w faithful i j ci cj v came
 
-      lawful : Lawful g f (m.setup j) (world.recorded j)
-      lawful = all-lives-lawful g f (m.setup j) grows (m.lives j) (world.recorded j) (w.lived j cj)
+      lawful : LawfulEver g f (m.setup j) (world.recorded j)
+      lawful = votes-so g f basis (m.setup j) (m.lives j) (world.recorded j) (w.lived j cj).0 (w.lived j cj).1
 
       mine : s.me ≡ i
       mine = mine-of g f scheme m world w i ci s own_setup
@@ -155,10 +174,10 @@ module _ {S D P G C : Type 0} (g : Ghosts S D P G C) (f : Formats S D P G C) (sc
           let from = accepted-known g f s h all (vote_round v).view u (kept-only (nat_lt (vote_round v).view (floor_of s h)) (all_votes (vote_round v).view h) u found.0) in
           let signer : vote_signer u ≡ j = way-signer v u found.1 ∙ sound.signer in
           let stands : Contains (world.recorded j) (vote_artifact u) = ⊎_elim
-          (λ there. (came-sound g f scheme m world grows back w faithful i j ci cj u (subst (λ (k : ℕ). CameIn g f scheme m world i k (of_vote u)) signer (heard.came u there))).recorded)
+          (λ there. (came-sound g f scheme m world basis back w faithful i j ci cj u (subst (λ (k : ℕ). CameIn g f scheme m world i k (of_vote u)) signer (heard.came u there))).recorded)
           (λ own. subst (λ (k : ℕ). Contains (world.recorded k) (vote_artifact u)) (sym mine ∙ (sym own.0 ∙ signer)) (heard.recorded (vote_artifact u) own.1))
           from.known in
-          one-a-way g f (m.setup j) (world.recorded j) lawful v u sound.recorded stands (ap (λ (r : Round). r.view) from.ours) found.1
+          ever-a-way g f (m.setup j) (world.recorded j) lawful v u sound.recorded stands (ap (λ (r : Round). r.view) from.ours) found.1
 
       go : (o : Option (Vote S D P G C)) → recorded (votes_of s h (vote_round v).view) v ≡ o
           → MatchOption o ⊥ (λ u. Offends (is_kept_in_full (votes_setup s g h (vote_round v).view) (vote_kind u) (votes_of s h (vote_round v).view)) u v) → ⊥
@@ -167,25 +186,25 @@ module _ {S D P G C : Type 0} (g : Ghosts S D P G C) (f : Formats S D P G C) (sc
           (subst (λ (x : Vote S D P G C). Offends (is_kept_in_full (votes_setup s g h (vote_round v).view) (vote_kind u) (votes_of s h (vote_round v).view)) x v) (same-vote u e) off)
 
 module _ {S D P G C : Type 0} (g : Ghosts S D P G C) (f : Formats S D P G C) (scheme : S) (m : Members S D P G C) (world : World S D P G C) where
-  fits-attests : (s : Setup S D C) (before : List (Artifact S D P G C)) (v : Vote S D P G C) → Fits (g.attests s.voter.scheme) (g.certifies s.voter.scheme) (owner_of s) before (vote_artifact v)
+  fits-attests : (s : Setup S D C) (before : List (Artifact S D P G C)) (v : Vote S D P G C) → EverStands (g.attests s.voter.scheme) (g.certifies s.voter.scheme) (owner_of s) before (vote_artifact v)
       → g.attests s.voter.scheme (vote_attestation v).signer (vote_statement v) (vote_attestation v).signature
   fits-attests s before (vote.Notarize v) fits = fits.verifies.verifies
   fits-attests s before (vote.Nullify v) fits = fits.verifies.verifies
   fits-attests s before (vote.Finalize v) fits = fits.verifies.verifies
 
   -- what a correct member recorded attests by its scheme
-  recorded-attests : RecordLaws g → LiveByNodes g f scheme m world → (j : ℕ) → IsCorrect world j → (v : Vote S D P G C) → Contains (world.recorded j) (vote_artifact v)
+  recorded-attests : LifeLaws g → LiveByNodes g f scheme m world → (j : ℕ) → IsCorrect world j → (v : Vote S D P G C) → Contains (world.recorded j) (vote_artifact v)
       → g.attests (m.setup j).voter.scheme (vote_attestation v).signer (vote_statement v) (vote_attestation v).signature
-  recorded-attests grows w j correct v here =
-      let lawful = all-lives-lawful g f (m.setup j) grows (m.lives j) (world.recorded j) (w.lived j correct) in
+  recorded-attests basis w j correct v here =
+      let lawful = votes-so g f basis (m.setup j) (m.lives j) (world.recorded j) (w.lived j correct).0 (w.lived j correct).1 in
       let at = splits (world.recorded j) (vote_artifact v) here in
       fits-attests (m.setup j) at.before v (lawful at.before at.behind (vote_artifact v) at.is)
 
   -- a construction blocks no correct member, where what attests by one's scheme does by the other's
-  pub none-invalid : RecordLaws g → RoundLaws g f.same → AreReadBack f → LiveByNodes g f scheme m world → AreFaithful g f scheme m world → DoAttestAlike g f scheme m world → (i j : ℕ) → IsCorrect world i → IsCorrect world j
+  pub none-invalid : LifeLaws g → RoundLaws g f.same → AreReadBack f → LiveByNodes g f scheme m world → AreFaithful g f scheme m world → DoAttestAlike g f scheme m world → (i j : ℕ) → IsCorrect world i → IsCorrect world j
       → (s : Setup S D C) → IsOfOneMember (m.setup i) s → (h : History S D P G C) → AreAllowed g f s h → HasHeard g f scheme m world i h → (view : ℕ) (kind : Kind) (batch : Batch (Certificate S D P G C))
       → Allowed g f s h (Constructs view kind batch) → Contains batch.invalid.items j → ⊥
-  none-invalid grows laws back w faithful alike i j ci cj s own_setup h all heard view kind batch allowed here =
+  none-invalid basis laws back w faithful alike i j ci cj s own_setup h all heard view kind batch allowed here =
       let r = votes_of s h view in
       let sound = votes-lawful g f s laws h all view (collected-up allowed.due.0) in
       let bad = All-contains (HasFailed g.attests (votes_setup s g h view) kind r) batch.invalid.items j (laws.failed (votes_setup s g h view) r kind batch sound allowed.due.2) here in
@@ -198,7 +217,7 @@ module _ {S D P G C : Type 0} (g : Ghosts S D P G C) (f : Formats S D P G C) (sc
       attests-here : (v : Vote S D P G C) → IsKnownVote g f s h v → vote_signer v ≡ j → g.attests s.voter.scheme (vote_attestation v).signer (vote_statement v) (vote_attestation v).signature
       attests-here v known signer = ⊎_elim
           (λ there.
-          let sound = came-sound g f scheme m world grows back w faithful i j ci cj v (subst (λ (k : ℕ). CameIn g f scheme m world i k (of_vote v)) signer (heard.came v there)) in
-          by-own v (alike i j ci cj (vote_attestation v).signer (vote_statement v) (vote_attestation v).signature (recorded-attests grows w j cj v sound.recorded)))
-          (λ own. by-own v (recorded-attests grows w i ci v (heard.recorded (vote_artifact v) own.1)))
+          let sound = came-sound g f scheme m world basis back w faithful i j ci cj v (subst (λ (k : ℕ). CameIn g f scheme m world i k (of_vote v)) signer (heard.came v there)) in
+          by-own v (alike i j ci cj (vote_attestation v).signer (vote_statement v) (vote_attestation v).signature (recorded-attests basis w j cj v sound.recorded)))
+          (λ own. by-own v (recorded-attests basis w i ci v (heard.recorded (vote_artifact v) own.1)))
           known

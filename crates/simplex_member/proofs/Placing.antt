@@ -20,7 +20,7 @@ use Rattle.simplex_member.specs.Asked.{build_at}
 use Rattle.simplex_member.specs.Laws.{RoundLaws}
 use Rattle.simplex_member.specs.Layers.{finalizes_above, finds, latest, takes_certificate, takes_outcome, voter_of}
 use Rattle.simplex_member.specs.Packet.{Formats}
-use Rattle.simplex_member.specs.Point.{Outcome, Counts, Falls, Passes, Point, Opened, Found, Began, Came, Built, Checked, Judged, Forwards, Constructs, Latches, Polls, AsksBuild, AsksVerify, AsksCertify, GivesBack, LeavesBehind, PutsOff, Resolves, Votes, Repeats, History}
+use Rattle.simplex_member.specs.Point.{Outcome, Counts, Falls, Passes, Point, Opened, Found, Began, Came, Built, Checked, Judged, Forwards, Constructs, Latches, Polls, AsksBuild, AsksVerify, AsksCertify, GivesBack, LeavesBehind, PutsOff, Resolves, Votes, Repeats, Rewrote, History}
 use Rattle.simplex_member.specs.Setup.{Setup}
 use Rattle.simplex_member.proofs.Ballots.{certificate-epoch}
 use Rattle.simplex_member.proofs.Binding.{forwarded-round, gone, under}
@@ -100,6 +100,7 @@ module _ {S D P G C : Type 0} (g : Ghosts S D P G C) (f : Formats S D P G C) (s 
     placed-point (Votes (vote.Nullify w)) h a all placed = (tt, placed)
     placed-point (Votes (vote.Finalize w)) h a all placed = (tt, placed)
     placed-point (Repeats w best) h a all placed = (tt, placed)
+    placed-point (Rewrote c) h a all placed = (tt, placed)
     placed-point p h a all placed = placed
 
     pub all-placed : (h : History S D P G C) → AreAllowed g f s h → AreOfTheirViews s.voter (voter_of s h)

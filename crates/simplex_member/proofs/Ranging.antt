@@ -32,7 +32,7 @@ use Rattle.simplex_member.specs.Laws.{RecordLaws}
 use Rattle.simplex_member.specs.Layers.{all_votes, current_of, floor_of, is_begun, stage, voter_of, votes_of, IsUp}
 use Rattle.simplex_member.specs.Member.{Goes}
 use Rattle.simplex_member.specs.Packet.{Formats}
-use Rattle.simplex_member.specs.Point.{Point, Opened, Found, Began, Told, Heard, Came, Wanted, Built, Checked, Judged, Leads, Forwards, Constructs, Latches, Polls, AsksBuild, AsksVerify, AsksCertify, GivesBack, LeavesBehind, PutsOff, Asks, Resolves, Votes, Repeats, AreActs, History, is_act}
+use Rattle.simplex_member.specs.Point.{Point, Opened, Found, Began, Told, Heard, Came, Wanted, Built, Checked, Judged, Leads, Forwards, Constructs, Latches, Polls, AsksBuild, AsksVerify, AsksCertify, GivesBack, LeavesBehind, PutsOff, Asks, Resolves, Votes, Repeats, Rewrote, AreActs, History, is_act}
 use Rattle.simplex_member.specs.Recorded.{record_of}
 use Rattle.simplex_member.specs.Setup.{Setup, GoesByMembers}
 use Rattle.simplex_member.proofs.Asking.{AreSmall, asked-low, room-small}
@@ -158,6 +158,7 @@ module _ {S D P G C : Type 0} (g : Ghosts S D P G C) (f : Formats S D P G C) (s 
         act-among (Built number handoff context payload took) h all a own = absurd (apart own)
         act-among (Checked number view answer outcome) h all a own = absurd (apart own)
         act-among (Judged r ok) h all a own = absurd (apart own)
+        act-among (Rewrote c) h all a own = absurd (apart own)
         act-among (Leads view index) h all a own = up-low h view a.due.0
         act-among (Forwards view p) h all a own = up-low h view a.due.0
         act-among (Constructs view kind batch) h all a own = up-low h view (collected-up a.due.0)

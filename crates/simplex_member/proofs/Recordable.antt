@@ -26,7 +26,7 @@ use Rattle.voter_laws.specs.Matching.{IsOrderly, Matches, IsBound, EachHistoryMa
 use Rattle.simplex_member.specs.Allowed.{Allowed, AreAllowed, GivesUp, VoteIsDue}
 use Rattle.simplex_member.specs.Layers.{current_of, finalizes_above, given, known_of, latest, takes_certificate, takes_outcome, voter_of, voter_points}
 use Rattle.simplex_member.specs.Packet.{Formats}
-use Rattle.simplex_member.specs.Point.{Outcome, Counts, Falls, Passes, Point, Opened, Found, Began, Told, Heard, Came, Wanted, Built, Checked, Judged, Forwards, Constructs, Latches, Polls, AsksBuild, AsksVerify, AsksCertify, GivesBack, PutsOff, Resolves, Votes, Repeats, History}
+use Rattle.simplex_member.specs.Point.{Outcome, Counts, Falls, Passes, Point, Opened, Found, Began, Told, Heard, Came, Wanted, Built, Checked, Judged, Forwards, Constructs, Latches, Polls, AsksBuild, AsksVerify, AsksCertify, GivesBack, PutsOff, Resolves, Votes, Repeats, Rewrote, History}
 use Rattle.simplex_member.specs.Recorded.{record_of}
 use Rattle.simplex_member.specs.Setup.{Setup, member_of}
 use Rattle.simplex_member.proofs.Orderly.{AreInPlace, all-taken, place-behind}
@@ -103,6 +103,7 @@ module _ {S D P G C : Type 0} where
     recalled-here now low (Votes (vote.Nullify v)) view ok here = absurd (lacks-absurd recall_in (voter_points s now low (Votes (vote.Nullify v))) (recalled_verdict view ok) (view, ok) (lacks-one recall_in _ refl) refl here)
     recalled-here now low (Votes (vote.Finalize v)) view ok here = absurd (lacks-absurd recall_in (voter_points s now low (Votes (vote.Finalize v))) (recalled_verdict view ok) (view, ok) (lacks-one recall_in _ refl) refl here)
     recalled-here now low (Repeats v best) view ok here = absurd (lacks-absurd recall_in (voter_points s now low (Repeats v best)) (recalled_verdict view ok) (view, ok) (lacks-one recall_in _ refl) refl here)
+    recalled-here now low (Rewrote c) view ok here = absurd (lacks-absurd recall_in (voter_points s now low (Rewrote c)) (recalled_verdict view ok) (view, ok) (lacks-one recall_in _ refl) refl here)
     recalled-here now low p view ok here = absurd (omega (arith, here.1))
 
     recalled-given : (h : History S D P G C) (view : ℕ) (ok : Bool) → Contains (voter_of s h) (recalled_verdict view ok) → (t : ℕ) × Contains (voter_of s h) (judged t view ok)

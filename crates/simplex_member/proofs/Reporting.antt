@@ -31,14 +31,14 @@ use Rattle.batcher_verifier.specs.History.{accepted, is_kept_in_full, recorded, 
 use Rattle.batcher_verifier.specs.Votes.{is_in_way, vote_kind, vote_statement}
 use Rattle.simplex_record.specs.declared.owner.Owner.{Owner}
 use Rattle.simplex_record.specs.Record.{Entry, entry, entries, voted, HasVoted}
-use Rattle.simplex_record.specs.Rules.{MayFollow, StandsInTheWay}
+use Rattle.simplex_record.specs.Rules.{MayFollow, StandsByVotes, StandsInTheWay}
 use Rattle.simplex_record.specs.World.{World, IsCorrect, IsHonest}
 use Rattle.simplex_member.specs.declared.event.Event.{Event}
 use Rattle.simplex_member.specs.declared.event.Event.TheVariants as event
 use Rattle.simplex_member.specs.declared.refusal.Refusal.{Refusal}
 use Rattle.simplex_member.specs.declared.refusal.Refusal.TheVariants as refusal
 use Rattle.simplex_member.specs.Deeds.{Deed, Blocks, Reports}
-use Rattle.simplex_member.specs.Laws.{HasReached, IsDoneAt, IsHonestReport, RecordLaws, RoundLaws}
+use Rattle.simplex_member.specs.Laws.{HasReached, IsDoneAt, IsHonestReport, LifeLaws, RoundLaws}
 use Rattle.simplex_member.specs.Layers.{all_votes, floor_of, votes_of, votes_setup}
 use Rattle.simplex_member.specs.Lives.{CameIn, HandedOut, IsHonestVote, Life, LiveByNodes, Members, WasHanded}
 use Rattle.simplex_member.specs.Packet.{Formats, Packet, of_vote}
@@ -46,13 +46,12 @@ use Rattle.simplex_member.specs.Point.{Point, Heard, History}
 use Rattle.simplex_member.specs.Recorded.{notarization_in, record_of, recorded_by, reported}
 use Rattle.simplex_member.specs.Refusals.{blocks_sender, evidence_deeds, refusal_report, refused_deeds}
 use Rattle.simplex_member.proofs.Allowing.{begun-allowed}
-use Rattle.simplex_member.proofs.Blame.{own-signed, splits}
+use Rattle.simplex_member.proofs.Blame.{LawfulEver, ever-signed, splits}
 use Rattle.simplex_member.proofs.Doing.{deeds-are, option-there}
-use Rattle.simplex_member.proofs.Going.{Lawful}
 use Rattle.simplex_member.proofs.Honest.{recorded-honest}
 use Rattle.simplex_member.proofs.Listed.{accepted-known, kept-only, vote-entry}
 use Rattle.simplex_member.proofs.Lists.{Contains-map, Contains-mapped, put-here, some-is}
-use Rattle.simplex_member.proofs.Living.{all-lives-lawful}
+use Rattle.simplex_member.proofs.Living.{votes-so}
 use Rattle.simplex_member.proofs.Making.{known-honest}
 use Rattle.simplex_member.proofs.Peace.{Before, find-there, ordered}
 use Rattle.simplex_member.proofs.Walking.{deed-done, reached-goes, reached-heard, reached-own}
@@ -200,23 +199,28 @@ module _ {S D P G C : Type 0} (g : Ghosts S D P G C) (f : Formats S D P G C) (sc
   against-report true None full v a each honest is = absurd (none-some a is)
   against-report false o full v a each honest is = absurd (none-some a is)
 
-  module _ (grows : RecordLaws g) (w : LiveByNodes g f scheme m world) (i : ℕ) (correct : IsCorrect world i) where
-    lawful : Lawful g f (m.setup i) (world.recorded i)
-    lawful = all-lives-lawful g f (m.setup i) grows (m.lives i) (world.recorded i) (w.lived i correct)
+  module _ (basis : LifeLaws g) (w : LiveByNodes g f scheme m world) (i : ℕ) (correct : IsCorrect world i) where
+    lawful : LawfulEver g f (m.setup i) (world.recorded i)
+    lawful = votes-so g f basis (m.setup i) (m.lives i) (world.recorded i) (w.lived i correct).0 (w.lived i correct).1
 
     -- an own vote is honest
     own-honest : (v : Vote S D P G C) → Contains (world.recorded i) (vote_artifact v) → IsTrueOf v
     own-honest v here = λ signs attests.
         let at = splits (world.recorded i) (vote_artifact v) here in
-        let signer : vote_signer v ≡ i = own-signed g f (m.setup i) at.before v (lawful at.before at.behind (vote_artifact v) at.is) ∙ ap (λ (o : Owner). o.signer) (w.owner i correct) in
+        let signer : vote_signer v ≡ i = ever-signed g f (m.setup i) at.before v (lawful at.before at.behind (vote_artifact v) at.is) ∙ ap (λ (o : Owner). o.signer) (w.owner i correct) in
         subst (λ (j : ℕ). HasVoted (entries (world.recorded j)) (vote_statement v)) (sym signer)
         (subst (λ (e : Entry D). Contains (entries (world.recorded i)) e) (vote-entry v) (Contains-map entry (world.recorded i) (vote_artifact v) here))
+
+    voted-follow : (views : ℕ) (before : List (Entry D)) (s : Statement D) → StandsByVotes views before (voted s) → MayFollow views before (voted s)
+    voted-follow views before (notarize p) stands = stands
+    voted-follow views before (nullify x) stands = stands
+    voted-follow views before (finalize p) stands = stands
 
     behind : ((views : ℕ) (before : List (Entry D)) (s t : Statement D) → MayFollow views before (voted s) → HasVoted before t → StandsInTheWay s t → ⊥)
         → (x y : Artifact S D P G C) (a b : Statement D) → Before (world.recorded i) x y → entry x ≡ voted a → entry y ≡ voted b → StandsInTheWay b a → ⊥
     behind law x y a b at first second stands =
         let fits = lawful at.before at.behind y at.is in
-        law (m.setup i).voter.length (entries at.before) b a (subst (λ (e : Entry D). MayFollow (m.setup i).voter.length (entries at.before) e) second fits.follows)
+        law (m.setup i).voter.length (entries at.before) b a (voted-follow (m.setup i).voter.length (entries at.before) b (subst (λ (e : Entry D). StandsByVotes (m.setup i).voter.length (entries at.before) e) second fits.stands))
         (subst (λ (e : Entry D). Contains (entries at.before) e) first (Contains-map entry at.before x at.there)) stands
 
     -- two own votes of which one stands in the other's way are for one statement
@@ -233,7 +237,7 @@ module _ {S D P G C : Type 0} (g : Ghosts S D P G C) (f : Formats S D P G C) (sc
         apart)
         (ordered (world.recorded i) x.0 y.0 x.1 y.1)
 
-  module _ (grows : RecordLaws g) (laws : RoundLaws g f.same) (w : LiveByNodes g f scheme m world) (i : ℕ) (correct : IsCorrect world i) where
+  module _ (basis : LifeLaws g) (laws : RoundLaws g f.same) (w : LiveByNodes g f scheme m world) (i : ℕ) (correct : IsCorrect world i) where
     taken-honest : (c : Certificate S D P G C) → Contains (world.recorded i) (certificate_artifact c) → IsHonest (g.attests scheme) g.lists world c
     taken-honest c here = recorded-honest g f scheme m world laws w i correct c here
 
@@ -247,9 +251,9 @@ module _ {S D P G C : Type 0} (g : Ghosts S D P G C) (f : Formats S D P G C) (sc
 
     -- so is what is reported of an artifact that is recorded
     recorded-report : (r : List (Artifact S D P G C)) (x : Artifact S D P G C) → ((y : Artifact S D P G C) → Contains r y → Contains (world.recorded i) y) → Contains (world.recorded i) x → (a : Activity S D P G C) → Contains (reported r x) a → Report a
-    recorded-report r (artifact.Notarize v) part here a there = subst Report (one (activity.Notarize v) a there) (vote-report (vote.Notarize v) (own-honest grows w i correct (vote.Notarize v) here))
-    recorded-report r (artifact.Nullify v) part here a there = subst Report (one (activity.Nullify v) a there) (vote-report (vote.Nullify v) (own-honest grows w i correct (vote.Nullify v) here))
-    recorded-report r (artifact.Finalize v) part here a there = subst Report (one (activity.Finalize v) a there) (vote-report (vote.Finalize v) (own-honest grows w i correct (vote.Finalize v) here))
+    recorded-report r (artifact.Notarize v) part here a there = subst Report (one (activity.Notarize v) a there) (vote-report (vote.Notarize v) (own-honest basis w i correct (vote.Notarize v) here))
+    recorded-report r (artifact.Nullify v) part here a there = subst Report (one (activity.Nullify v) a there) (vote-report (vote.Nullify v) (own-honest basis w i correct (vote.Nullify v) here))
+    recorded-report r (artifact.Finalize v) part here a there = subst Report (one (activity.Finalize v) a there) (vote-report (vote.Finalize v) (own-honest basis w i correct (vote.Finalize v) here))
     recorded-report r (artifact.Notarization c) part here a there = subst Report (one (activity.Notarization c) a there) (certificate-report (certificate.Notarization c) (taken-honest (certificate.Notarization c) here))
     recorded-report r (artifact.Nullification c) part here a there = subst Report (one (activity.Nullification c) a there) (certificate-report (certificate.Nullification c) (taken-honest (certificate.Nullification c) here))
     recorded-report r (artifact.Finalization c) part here a there = subst Report (one (activity.Finalization c) a there) (certificate-report (certificate.Finalization c) (taken-honest (certificate.Finalization c) here))

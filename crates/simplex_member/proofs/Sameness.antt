@@ -18,7 +18,7 @@ module _ {S D P G C : Type 0} (g : Ghosts S D P G C) (s t : Setup S D C) (same :
     voter_me = sym same.voter_me;
     epoch = sym same.epoch;
     length = sym same.length;
-    genesis = sym same.genesis;
+    genesis = λ payload more first second. sym (same.genesis more payload second first);
     mode = sym same.mode;
     elect = λ view certificate. sym (same.elect view certificate);
   }

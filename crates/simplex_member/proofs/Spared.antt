@@ -14,7 +14,7 @@ use Rattle.simplex_member.specs.declared.refusal.Refusal.{Refusal}
 use Rattle.simplex_member.specs.declared.refusal.Refusal.TheVariants as refusal
 use Rattle.simplex_member.specs.Deeds.{Deed, Blocks, Reports}
 use Rattle.simplex_member.specs.First.{IsFirst}
-use Rattle.simplex_member.specs.Laws.{AreReadBack, HasHeard, HoldsNoVote, RecordLaws}
+use Rattle.simplex_member.specs.Laws.{AreReadBack, HasHeard, HoldsNoVote, LifeLaws}
 use Rattle.simplex_member.specs.Lives.{AreFaithful, CameIn, LiveByNodes, Members, WasHanded}
 use Rattle.simplex_member.specs.Packet.{Formats, Packet, of_vote}
 use Rattle.simplex_member.specs.Point.{History}
@@ -48,12 +48,12 @@ module _ {S D P G C : Type 0} (g : Ghosts S D P G C) (f : Formats S D P G C) (s 
   report-spares r deeds j none here = absurd (omega (arith, here.1))
 
 module _ {S D P G C : Type 0} (g : Ghosts S D P G C) (f : Formats S D P G C) (scheme : S) (m : Members S D P G C) (world : World S D P G C)
-    (grows : RecordLaws g) (back : AreReadBack f) (w : LiveByNodes g f scheme m world) (faithful : AreFaithful g f scheme m world) (i j : ℕ) (ci : IsCorrect world i) (cj : IsCorrect world j)
+    (basis : LifeLaws g) (back : AreReadBack f) (w : LiveByNodes g f scheme m world) (faithful : AreFaithful g f scheme m world) (i j : ℕ) (ci : IsCorrect world i) (cj : IsCorrect world j)
     (s : Setup S D C) (own : IsOfOneMember (m.setup i) s) (h : History S D P G C) (all : AreAllowed g f s h) (heard : HasHeard g f scheme m world i h) where
   -- no test that blocks applies to a vote of a correct member
   none-first : (v : Vote S D P G C) (r : Refusal) → CameIn g f scheme m world i j (of_vote v) → IsFirst (sender_tests g f s j ++ packet_tests g f s h j (Some (of_vote v))) (Some r) → blocks_sender r ≡ true → ⊥
   none-first v r came first blocks =
-      let sound = came-sound g f scheme m world grows back w faithful i j ci cj v came in
+      let sound = came-sound g f scheme m world basis back w faithful i j ci cj v came in
       ⊎_elim (λ t. spares r refusal.UnknownSender t.1 refl blocks) (λ n.
       ⊎_elim (λ t. spares r refusal.OwnName t.1 refl blocks) (λ n.
       ⊎_elim (λ t. spares r refusal.WrongEpoch t.1 refl blocks) (λ n.
@@ -62,7 +62,7 @@ module _ {S D P G C : Type 0} (g : Ghosts S D P G C) (f : Formats S D P G C) (sc
       ⊎_elim (λ t. spares r refusal.NoRoom t.1 refl blocks) (λ n.
       ⊎_elim (λ t. t.0 sound.parent_below) (λ n.
       ⊎_elim (λ t. t.0 sound.signer) (λ n.
-      ⊎_elim (λ t. none-contradicts g f scheme m world grows back w faithful i j ci cj s own h all heard v came t.0) (λ n.
+      ⊎_elim (λ t. none-contradicts g f scheme m world basis back w faithful i j ci cj s own h all heard v came t.0) (λ n.
       ⊎_elim (λ t. spares r refusal.Repeated t.1 refl blocks) (λ n. none-some r (sym n.1)) n.1) n.1) n.1) n.1) n.1) n.1) n.1) n.1) n.1) first
 
   pub no-vote : (e : Event D) → WasHanded g f scheme m world i e → (r : Refusal) → IsFirst (tests g f s h e) (Some r) → Contains (refused_deeds g f s h e r) (Blocks j) → HoldsNoVote f e j

@@ -1,5 +1,5 @@
 -- Each vote that is sent was due, and none is due where a life has answered.
-use Rattle.std.proofs.Common.{◌≡◌, ⊎_elim, ℕ, List, [], ◌∷◌, Option, Some, refl, sym, subst}
+use Rattle.std.proofs.Common.{⊎_elim, ℕ, List, [], ◌∷◌, ◌++◌, Option, refl, sym, subst}
 use Rattle.std.specs.Prelude.{Contains}
 use Rattle.types_quorum.specs.Counting.{Contains-cases, Contains-nil}
 use Rattle.types_core.specs.declared.scheme.Scheme.{Ghosts}
@@ -7,10 +7,10 @@ use Rattle.messages_certificates.specs.declared.artifact.Artifact.{Artifact}
 use Rattle.simplex_messages.specs.declared.vote.Vote.{Vote}
 use Rattle.simplex_record.specs.World.{World, IsCorrect}
 use Rattle.simplex_member.specs.Deeds.{Sends}
-use Rattle.simplex_member.specs.Lives.{Course, Life, Broken, Lasting, Turn, Refuses, Went, HandedOut, Lived, LiveByNodes, Members, Turns}
-use Rattle.simplex_member.specs.Member.{Goes, NoneDue, after}
+use Rattle.simplex_member.specs.Lives.{Course, Life, Broken, Lasting, Turn, Refuses, Rewrites, Went, HandedOut, Lived, LiveByNodes, Members, Turns}
+use Rattle.simplex_member.specs.Member.{NoneDue, after}
 use Rattle.simplex_member.specs.Packet.{Formats, of_vote}
-use Rattle.simplex_member.specs.Point.{Point, History}
+use Rattle.simplex_member.specs.Point.{Rewrote, History}
 use Rattle.simplex_member.specs.Sent.{WasCastDue, answers_of, turns_answer}
 use Rattle.simplex_member.specs.Setup.{Setup}
 use Rattle.simplex_member.proofs.Blame.{after-goes, refused-none}
@@ -33,6 +33,10 @@ module _ {S D P G C : Type 0} (g : Ghosts S D P G C) (f : Formats S D P G C) (s 
       (λ is. subst (λ (x : History S D P G C). NoneDue g f s x) is then_)
       (λ later. turns-rest (after h points) turns end (subst (λ (x : History S D P G C). Turns g f s x turns end) (sym at) t.3) then_ k later)
       (Contains-cases (after h points) (turns_answer (after h points) turns) k here)
+  turns-rest h (Rewrites c ∷ turns) end t none k here = ⊎_elim
+      (λ is. subst (λ (x : History S D P G C). NoneDue g f s x) is t.0.none_due)
+      (λ later. turns-rest (Rewrote c ∷ h) turns end t.1 t.0.none_due k later)
+      (Contains-cases (Rewrote c ∷ h) (turns_answer (Rewrote c ∷ h) turns) k here)
 
   life-rests : (found : List (Artifact S D P G C)) (life : Course S D P G C) (end : History S D P G C) → Lived g f s found life end → (k : History S D P G C) → Contains (answers_of life) k → NoneDue g f s k
   life-rests found (Broken now points) end lived k here = absurd (Contains-nil k here)
@@ -60,4 +64,4 @@ module _ {S D P G C : Type 0} (g : Ghosts S D P G C) (f : Formats S D P G C) (sc
   pub none-left : (life : Life S D P G C) → Contains (m.lives i) life → (h : History S D P G C) → Contains (answers_of life.course) h → NoneDue g f life.setup h
   none-left life among h here =
       let lived = of-correct g f scheme m world i w correct life among in
-      life-rests g f life.setup lived.found life.course lived.end lived.lived h here
+      life-rests g f life.setup (lived.found ++ life.founded) life.course lived.end lived.lived h here

@@ -1,5 +1,5 @@
 -- A correct member blocks a correct one by a refusal alone, for a packet that holds no vote.
-use Rattle.std.proofs.Common.{◌≡◌, ⊎_elim, ℕ, Bool, false, List, [], ◌∷◌, Some, sym, subst, arith}
+use Rattle.std.proofs.Common.{◌≡◌, ⊎_elim, ℕ, Bool, false, List, [], ◌∷◌, ◌++◌, Some, sym, subst, arith}
 use Rattle.std.specs.Prelude.{Contains, option_map, option_to_list, ⊤}
 use Rattle.std.proofs.lemmas.List.Elements.{Contains-append_cases, Contains-append_left}
 use Rattle.types_quorum.specs.Counting.{Contains-cases, Contains-head, Contains-rest}
@@ -9,15 +9,15 @@ use Rattle.simplex_messages.specs.declared.vote.Vote.{Vote}
 use Rattle.simplex_record.specs.World.{World, IsCorrect}
 use Rattle.simplex_member.specs.declared.event.Event.{Event}
 use Rattle.simplex_member.specs.Allowed.{Allowed, AreAllowed}
-use Rattle.simplex_member.specs.Laws.{AreReadBack, DoAttestAlike, HasHeard, HoldsNoVote, IsRefusedFor, RecordLaws, RoundLaws}
-use Rattle.simplex_member.specs.Lives.{Course, Life, Broken, Lasting, Turn, Refuses, Went, CameIn, Lived, Lives, Members, Turns, WasHanded, events_of, turn_events, AreFaithful, HandedOut, LiveByNodes, handed_out, turn_deeds}
+use Rattle.simplex_member.specs.Laws.{AreReadBack, DoAttestAlike, HasHeard, HoldsNoVote, IsRefusedFor, LifeLaws, RoundLaws}
+use Rattle.simplex_member.specs.Lives.{Course, Life, Broken, Lasting, Turn, Refuses, Rewrites, Went, CameIn, Lived, Lives, Members, Turns, WasHanded, events_of, turn_events, AreFaithful, HandedOut, LiveByNodes, handed_out, turn_deeds}
 use Rattle.simplex_member.specs.Member.{AreOpening, AreStep, Goes, IsPacketPoint, after}
 use Rattle.simplex_member.specs.Packet.{Formats, Packet, of_vote, of_certificate, of_ask}
-use Rattle.simplex_member.specs.Point.{Point, Found, Heard, Came, Wanted, Constructs, History}
-use Rattle.simplex_member.specs.Recorded.{record_of, recorded_by}
+use Rattle.simplex_member.specs.Point.{Point, Found, Heard, Came, Wanted, Constructs, Rewrote, History}
+use Rattle.simplex_member.specs.Recorded.{fresh_of, kept_of, record_of, recorded_by}
 use Rattle.simplex_member.proofs.Allowing.{begun-allowed, goes-allowed}
 use Rattle.simplex_member.proofs.Feeding.{Each, each-there, goes-each, opening-each, step-each, takes_in}
-use Rattle.simplex_member.proofs.Keeping.{lives-keep, cut-keeps, grown, turns-keep}
+use Rattle.simplex_member.proofs.Keeping.{cut-keeps, ended-part, grown, kept-part, lives-keep, turns-keep}
 use Rattle.simplex_member.proofs.Telling.{apart}
 use Rattle.simplex_messages.specs.VoteParts.{vote_signer}
 use Rattle.simplex_member.specs.Deeds.{Blocks, all_deeds, deeds_of}
@@ -67,13 +67,13 @@ module _ {S D P G C : Type 0} (g : Ghosts S D P G C) (f : Formats S D P G C) (sc
   step-taken : (h : History S D P G C) (e : Event D) (points : List (Point S D P G C)) → WasHanded g f scheme m world i e → AreStep g f s h e points → AreTaken points
   step-taken h e points handed step = step-each g f scheme m world i s IsTaken quiet-taken came-taken h e points handed step
 
-  module _ (grows : RecordLaws g) (laws : RoundLaws g f.same) (back : AreReadBack f) (w : LiveByNodes g f scheme m world) (faithful : AreFaithful g f scheme m world) (alike : DoAttestAlike g f scheme m world) (j : ℕ) (ci : IsCorrect world i) (cj : IsCorrect world j) (own : IsOfOneMember (m.setup i) s) where
+  module _ (laws : RoundLaws g f.same) (basis : LifeLaws g) (back : AreReadBack f) (w : LiveByNodes g f scheme m world) (faithful : AreFaithful g f scheme m world) (alike : DoAttestAlike g f scheme m world) (j : ℕ) (ci : IsCorrect world i) (cj : IsCorrect world j) (own : IsOfOneMember (m.setup i) s) where
     abbrev IsPart : List (Artifact S D P G C) → Type 0
     IsPart r = (x : Artifact S D P G C) → Contains r x → Contains (world.recorded i) x
 
     here-none : (p : Point S D P G C) (h : History S D P G C) → Allowed g f s h p → AreAllowed g f s h → AreTaken h → IsPart (record_of h) → Contains (deeds_of g f s h p) (Blocks j) → ⊥
     here-none (Constructs view kind batch) h a all taken part here =
-        none-invalid g f scheme m world grows laws back w faithful alike i j ci cj s own h all (record { came = λ v there. heard-came h taken v there; recorded = part }) view kind batch a (block-here g f s h (Constructs view kind batch) j here)
+        none-invalid g f scheme m world basis laws back w faithful alike i j ci cj s own h all (record { came = λ v there. heard-came h taken v there; recorded = part }) view kind batch a (block-here g f s h (Constructs view kind batch) j here)
     here-none p h a all taken part here = absurd (block-here g f s h p j here)
 
     points-none : (h : History S D P G C) (points : List (Point S D P G C)) (end : History S D P G C) → Goes g f s h points end → AreAllowed g f s h → AreTaken h → AreTaken points → IsPart (record_of end)
@@ -88,7 +88,7 @@ module _ {S D P G C : Type 0} (g : Ghosts S D P G C) (f : Formats S D P G C) (sc
     Blamed = (x : IsRefusedFor g f scheme m world i j) × HoldsNoVote f x.e j
 
     with_none : (h : History S D P G C) → AreAllowed g f s h → HasHeard g f scheme m world i h → (e : Event D) → WasHanded g f scheme m world i e → (r : Refusal) → IsFirst (tests g f s h e) (Some r) → Contains (refused_deeds g f s h e r) (Blocks j) → Blamed
-    with_none h all heard e handed r first blocks = (record { setup = s; own = own; e = e; handed = handed; h = h; heard = heard; r = r; first = first; blocks = blocks }, no-vote g f scheme m world grows back w faithful i j ci cj s own h all heard e handed r first blocks)
+    with_none h all heard e handed r first blocks = (record { setup = s; own = own; e = e; handed = handed; h = h; heard = heard; r = r; first = first; blocks = blocks }, no-vote g f scheme m world basis back w faithful i j ci cj s own h all heard e handed r first blocks)
 
     turns-refused : (h : History S D P G C) (turns : List (Turn S D P G C)) (end : History S D P G C) → Turns g f s h turns end → ((e : Event D) → Contains (turn_events turns) e → WasHanded g f scheme m world i e)
         → AreAllowed g f s h → AreTaken h → IsPart (record_of end) → Contains (turn_deeds g f s h turns) (Blocks j) → Blamed
@@ -104,6 +104,7 @@ module _ {S D P G C : Type 0} (g : Ghosts S D P G C) (f : Formats S D P G C) (sc
         (λ later. turns-refused t.0 turns end t.3 (λ x there. handed x (Contains-rest e (turn_events turns) x there)) (goes-allowed g f s h points t.0 t.2.goes all) (goes-taken h points t.0 t.2.goes stepped taken) part
         (subst (λ (k : History S D P G C). Contains (turn_deeds g f s k turns) (Blocks j)) (after-goes g f s h points t.0 t.2.goes) later))
         (Contains-append_cases (all_deeds g f s h points) (turn_deeds g f s (after h points) turns) (Blocks j) here)
+    turns-refused h (Rewrites c ∷ turns) end t handed all taken part here = turns-refused (Rewrote c ∷ h) turns end t.1 handed (t.0.allowed, all) (tt, taken) part here
 
     pub life-refused : (found : List (Artifact S D P G C)) (life : Course S D P G C) (end : History S D P G C) → Lived g f s found life end → ((e : Event D) → Contains (events_of life) e → WasHanded g f scheme m world i e)
         → IsPart (record_of end) → Contains (handed_out g f s life) (Blocks j) → Blamed
@@ -119,19 +120,24 @@ module _ {S D P G C : Type 0} (g : Ghosts S D P G C) (f : Formats S D P G C) (sc
         (Contains-append_cases (all_deeds g f s [] points) (turn_deeds g f s (after [] points) turns) (Blocks j) here)
 
 module _ {S D P G C : Type 0} (g : Ghosts S D P G C) (f : Formats S D P G C) (scheme : S) (m : Members S D P G C) (world : World S D P G C) (i : ℕ)
-    (grows : RecordLaws g) (laws : RoundLaws g f.same) (back : AreReadBack f) (w : LiveByNodes g f scheme m world) (faithful : AreFaithful g f scheme m world) (alike : DoAttestAlike g f scheme m world) (j : ℕ) (ci : IsCorrect world i) (cj : IsCorrect world j) where
+    (laws : RoundLaws g f.same) (basis : LifeLaws g) (back : AreReadBack f) (w : LiveByNodes g f scheme m world) (faithful : AreFaithful g f scheme m world) (alike : DoAttestAlike g f scheme m world) (j : ℕ) (ci : IsCorrect world i) (cj : IsCorrect world j) where
   abbrev BlamedSo : Type 0
   BlamedSo = (x : IsRefusedFor g f scheme m world i j) × HoldsNoVote f x.e j
 
-  lives-refused : (found : List (Artifact S D P G C)) (lives : List (Life S D P G C)) (left : List (Artifact S D P G C)) (life : Life S D P G C) → Lives g f (m.setup i) found lives left → ((l : Life S D P G C) → Contains lives l → Contains (m.lives i) l)
-      → ((x : Artifact S D P G C) → Contains left x → Contains (world.recorded i) x) → Contains lives life → Contains (handed_out g f life.setup life.course) (Blocks j) → BlamedSo
-  lives-refused found [] left life all among part here blocked = absurd (omega (arith, here.1))
-  lives-refused found (x ∷ lives) left life all among part here blocked = ⊎_elim
-      (λ is. life-refused g f scheme m world i x.setup grows laws back w faithful alike j ci cj all.3 found x.course all.0 all.1 (λ e there. (x, among x (Contains-head x lives), there)) (λ y there. part y (lives-keep g f (m.setup i) (record_of all.0) lives left all.2 y there))
+  lives-refused : (ever found : List (Artifact S D P G C)) (lives : List (Life S D P G C)) (all left : List (Artifact S D P G C)) (life : Life S D P G C) → Lives g f (m.setup i) ever found lives all left
+      → ((x : Artifact S D P G C) → Contains found x → Contains ever x) → ((l : Life S D P G C) → Contains lives l → Contains (m.lives i) l)
+      → ((x : Artifact S D P G C) → Contains all x → Contains (world.recorded i) x) → Contains lives life → Contains (handed_out g f life.setup life.course) (Blocks j) → BlamedSo
+  lives-refused ever found [] all left life led part among whole here blocked = absurd (omega (arith, here.1))
+  lives-refused ever found (x ∷ lives) all left life led part among whole here blocked =
+      let ever_then = ever ++ (x.founded ++ fresh_of led.0) in
+      let kept_then = kept_of x.setup.voter.length led.0 in
+      ⊎_elim
+      (λ is. life-refused g f scheme m world i x.setup laws basis back w faithful alike j ci cj led.4 (found ++ x.founded) x.course led.0 led.2 (λ e there. (x, among x (Contains-head x lives), there))
+      (λ y there. whole y (lives-keep g f (m.setup i) ever_then kept_then lives all left led.3 y (ended-part g f (m.setup i) ever found x led.0 led.2 part y there)))
       (subst (λ (l : Life S D P G C). Contains (handed_out g f l.setup l.course) (Blocks j)) (sym is) blocked))
-      (λ later. lives-refused (record_of all.0) lives left life all.2 (λ l there. among l (Contains-rest x lives l there)) part later blocked)
+      (λ later. lives-refused ever_then kept_then lives all left life led.3 (kept-part g f (m.setup i) ever found x led.0 led.2 part) (λ l there. among l (Contains-rest x lives l there)) whole later blocked)
       (Contains-cases x lives life here)
 
   -- a correct member blocks a correct one by a refusal alone
   pub refused-alone : HandedOut g f scheme m world i (Blocks j) → BlamedSo
-  refused-alone out = lives-refused [] (m.lives i) (world.recorded i) out.0 (w.lived i ci) (λ l there. there) (λ x there. there) out.1 out.2
+  refused-alone out = lives-refused [] [] (m.lives i) (world.recorded i) (w.lived i ci).0 out.0 (w.lived i ci).1 (λ x there. there) (λ l there. there) (λ x there. there) out.1 out.2

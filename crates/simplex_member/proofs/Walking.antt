@@ -1,6 +1,7 @@
 -- A life as one walk: its points, one after the other, the histories on its way, and where each deed was done.
 use Rattle.std.proofs.Common.{◌≡◌, ◌⊎◌, inl, inr, ⊎_elim, ℕ, List, [], ◌∷◌, ◌++◌, Option, Some, None, refl, sym, ◌∙◌, ap, subst, arith, append_assoc}
 use Rattle.std.specs.Prelude.{Contains, option_map, option_to_list, unwrap_or}
+use Rattle.std.proofs.lemmas.List.{append-nil}
 use Rattle.std.proofs.lemmas.List.Elements.{Contains-append_cases, Contains-append_left, Contains-append_right}
 use Rattle.types_quorum.specs.Counting.{Contains-cases, Contains-head, Contains-rest}
 use Rattle.types_core.specs.declared.scheme.Scheme.{Ghosts}
@@ -11,18 +12,19 @@ use Rattle.simplex_member.specs.declared.refusal.Refusal.{Refusal}
 use Rattle.simplex_member.specs.Allowed.{Allowed}
 use Rattle.simplex_member.specs.Deeds.{Deed, all_deeds, deeds_of}
 use Rattle.simplex_member.specs.First.{IsFirst}
-use Rattle.simplex_member.specs.Laws.{HasHeard, HasReached, IsDoneAt, IsDoneRefusing}
-use Rattle.simplex_member.specs.Lives.{Course, Life, Broken, Lasting, Turn, Refuses, Went, HandedOut, IsCut, LiveByNodes, Lived, Lives, Members, Turns, WasHanded, events_of, handed_out, points_of, turn_deeds, turn_events, turn_points}
+use Rattle.simplex_member.specs.Laws.{HasHeard, HasReached, IsDoneAt, IsDoneRefusing, IsEverAt}
+use Rattle.simplex_member.specs.Lives.{Course, Founds, Life, Broken, Lasting, Turn, Refuses, Rewrites, Went, HandedOut, IsCut, LiveByNodes, Lived, Lives, Members, Turns, WasHanded, events_of, handed_out, points_of, turn_deeds, turn_events, turn_points}
 use Rattle.simplex_member.specs.Member.{Goes, after}
 use Rattle.simplex_member.specs.Packet.{Formats}
-use Rattle.simplex_member.specs.Point.{Point, Heard, History}
-use Rattle.simplex_member.specs.Recorded.{record_of}
+use Rattle.simplex_member.specs.Point.{Point, Found, Heard, Rewrote, History}
+use Rattle.simplex_member.specs.Recorded.{fresh_of, kept_of}
 use Rattle.simplex_member.specs.Refusals.{refused_deeds, tests}
 use Rattle.simplex_member.specs.Setup.{IsOfOneMember, Setup}
 use Rattle.simplex_member.proofs.Blame.{after-goes}
 use Rattle.simplex_member.proofs.Feeding.{Each, each-append, each-there, goes-each, step-each}
 use Rattle.simplex_member.proofs.Going.{goes-then}
-use Rattle.simplex_member.proofs.Keeping.{grown, lives-keep}
+use Rattle.simplex_member.proofs.Keeping.{found-or-fresh, goes-fresh, goes-there, kept-part}
+use Rattle.simplex_member.proofs.Rereading.{life-found}
 use Rattle.simplex_member.proofs.Walk.{AreTaken, IsTaken, came-taken, opening-taken, quiet-taken}
 
 module _ {S D P G C : Type 0} where
@@ -46,6 +48,7 @@ module _ {S D P G C : Type 0} (g : Ghosts S D P G C) (f : Formats S D P G C) (s 
   turns-goes h [] end is = is
   turns-goes h (Refuses e r ∷ turns) end t = turns-goes h turns end t.1
   turns-goes h (Went e points ∷ turns) end t = goes-then g f s h points t.0 (turn_points turns) end t.2.goes (turns-goes t.0 turns end t.3)
+  turns-goes h (Rewrites c ∷ turns) end t = (t.0.allowed, turns-goes (Rewrote c ∷ h) turns end t.1)
 
   cut-goes : (h : History S D P G C) (cut : Option (Event D × List (Point S D P G C))) (end : History S D P G C) → IsCut g f s h cut end → Goes g f s h (cut_points cut) end
   cut-goes h None end is = is
@@ -191,6 +194,10 @@ module _ {S D P G C : Type 0} (g : Ghosts S D P G C) (f : Formats S D P G C) (s 
       (λ at. inr (refusal-later h (points ++ turn_points turns) e (turn_events turns) d (refusal-behind h points (turn_points turns) (turn_events turns) d at)))
       (turn-done (after h points) turns end d (subst (λ (k : History S D P G C). Turns g f s k turns end) (sym (after-goes g f s h points t.0 t.2.goes)) t.3) later))
       (Contains-append_cases (all_deeds g f s h points) (turn_deeds g f s (after h points) turns) d here)
+  turn-done h (Rewrites c ∷ turns) end d t here = ⊎_elim
+      (λ at. inl (deed-behind h (Rewrote c ∷ []) (turn_points turns) d at))
+      (λ at. inr (refusal-behind h (Rewrote c ∷ []) (turn_points turns) (turn_events turns) d at))
+      (turn-done (Rewrote c ∷ h) turns end d t.1 here)
 
   pub life-done : (found : List (Artifact S D P G C)) (life : Course S D P G C) (end : History S D P G C) (d : Deed S D P G C) → Lived g f s found life end → Contains (handed_out g f s life) d → IsDone [] (points_of life) (events_of life) d
   life-done found (Broken now points) end d lived here = absurd (omega (arith, here.1))
@@ -205,33 +212,86 @@ module _ {S D P G C : Type 0} (g : Ghosts S D P G C) (f : Formats S D P G C) (s 
       (Contains-append_cases (all_deeds g f s [] points) (turn_deeds g f s (after [] points) turns) d here)
 
 module _ {S D P G C : Type 0} (g : Ghosts S D P G C) (f : Formats S D P G C) (s : Setup S D C) where
-  -- a life among those that left this: what it found, where it ended, of which all was left; and its setup is the member's
-  pub record IsLived (left : List (Artifact S D P G C)) (life : Life S D P G C) : Type 0 where
+  abbrev IsPart : List (Artifact S D P G C) → List (Artifact S D P G C) → Type 0
+  IsPart r all = (x : Artifact S D P G C) → Contains r x → Contains all x
+
+  -- a life among those of a member that ever recorded this: what it had recorded before, what it found of that, where it ended; and its
+  -- setup is the member's
+  pub record IsLived (all : List (Artifact S D P G C)) (life : Life S D P G C) : Type 0 where
+    pub ever : List (Artifact S D P G C)
     pub found : List (Artifact S D P G C)
     pub end : History S D P G C
-    pub lived : Lived g f life.setup found life.course end
-    pub kept : (x : Artifact S D P G C) → Contains (record_of end) x → Contains left x
+    pub behind : List (Artifact S D P G C)
+    pub part : IsPart found ever
+    pub founds : Founds g f found life
+    pub lived : Lived g f life.setup (found ++ life.founded) life.course end
+    pub among : all ≡ (ever ++ (life.founded ++ fresh_of end)) ++ behind
     pub own : IsOfOneMember s life.setup
 
-  pub lived-among : (found : List (Artifact S D P G C)) (lives : List (Life S D P G C)) (left : List (Artifact S D P G C)) (life : Life S D P G C) → Lives g f s found lives left → Contains lives life → IsLived left life
-  lived-among found [] left life all here = absurd (omega (arith, here.1))
-  lived-among found (x ∷ lives) left life all here = ⊎_elim
-      (λ is. record {
+  pub lives-grow : (ever found : List (Artifact S D P G C)) (lives : List (Life S D P G C)) (all left : List (Artifact S D P G C)) → Lives g f s ever found lives all left → (more : List (Artifact S D P G C)) × (all ≡ ever ++ more)
+  lives-grow ever found [] all left is = ([], is.0 ∙ sym (append-nil ever))
+  lives-grow ever found (life ∷ lives) all left led =
+      let new = life.founded ++ fresh_of led.0 in
+      let rest = lives-grow (ever ++ new) (kept_of life.setup.voter.length led.0) lives all left led.3 in
+      (new ++ rest.0, rest.1 ∙ append_assoc ever new rest.0)
+
+  unfoldable pub lived-first : (ever found : List (Artifact S D P G C)) (life : Life S D P G C) (lives : List (Life S D P G C)) (all left : List (Artifact S D P G C)) → Lives g f s ever found (life ∷ lives) all left → IsPart found ever → IsLived all life
+  lived-first ever found life lives all left led part =
+      let rest = lives-grow (ever ++ (life.founded ++ fresh_of led.0)) (kept_of life.setup.voter.length led.0) lives all left led.3 in
+      record {
+        ever = ever;
         found = found;
-        end = all.0;
-        lived = subst (λ (l : Life S D P G C). Lived g f l.setup found l.course all.0) is all.1;
-        kept = λ y there. lives-keep g f s (record_of all.0) lives left all.2 y there;
-        own = subst (λ (l : Life S D P G C). IsOfOneMember s l.setup) is all.3;
-      })
-      (λ later. lived-among (record_of all.0) lives left life all.2 later)
+        end = led.0;
+        behind = rest.0;
+        part = part;
+        founds = led.1;
+        lived = led.2;
+        among = rest.1;
+        own = led.4;
+      }
+
+  lived-then : (ever found : List (Artifact S D P G C)) (lives : List (Life S D P G C)) (all left : List (Artifact S D P G C)) (life : Life S D P G C) → Lives g f s ever found lives all left → IsPart found ever → Contains lives life → IsLived all life
+  lived-then ever found [] all left life led part here = absurd (omega (arith, here.1))
+  lived-then ever found (x ∷ lives) all left life led part here = ⊎_elim
+      (λ is. subst (λ (l : Life S D P G C). IsLived all l) is (lived-first ever found x lives all left led part))
+      (λ later. lived-then (ever ++ (x.founded ++ fresh_of led.0)) (kept_of x.setup.voter.length led.0) lives all left life led.3 (kept-part g f s ever found x led.0 led.2 part) later)
       (Contains-cases x lives life here)
+
+  pub lived-among : (lives : List (Life S D P G C)) (all left : List (Artifact S D P G C)) (life : Life S D P G C) → Lives g f s [] [] lives all left → Contains lives life → IsLived all life
+  lived-among lives all left life led here = lived-then [] [] lives all left life led (λ x there. there) here
+
+  -- what is recorded on its way was ever recorded, by all that was till then
+  pub ever-at : (all : List (Artifact S D P G C)) (life : Life S D P G C) (w : IsLived all life) (before behind : List (Point S D P G C)) → points_of life.course ≡ before ++ behind → (h : History S D P G C) → h ≡ after [] before
+      → IsEverAt g f all life h (w.ever ++ (life.founded ++ fresh_of h))
+  ever-at all life w before behind split h is =
+      let t = life.setup in
+      let whole = subst (λ (l : List (Point S D P G C)). Goes g f t [] l w.end) split (life-goes g f t (w.found ++ life.founded) life.course w.end w.lived) in
+      let on = subst (λ (k : History S D P G C). Goes g f t k behind w.end) (sym is) (goes-rest g f t [] w.end before behind whole) in
+      let more = goes-fresh g f t h behind w.end on in
+      record {
+        before = w.ever;
+        behind = more.0 ++ w.behind;
+        since = refl;
+        among = w.among ∙ (ap (λ (l : List (Artifact S D P G C)). (w.ever ++ (life.founded ++ l)) ++ w.behind) more.1 ∙ (ap (λ (l : List (Artifact S D P G C)). l ++ w.behind)
+            (ap (λ (l : List (Artifact S D P G C)). w.ever ++ l) (sym (append_assoc life.founded (fresh_of h) more.0)) ∙ sym (append_assoc w.ever (life.founded ++ fresh_of h) more.0))
+            ∙ append_assoc (w.ever ++ (life.founded ++ fresh_of h)) more.0 w.behind));
+        known = λ x here. ⊎_elim
+            (λ was.
+            let there = life-found g f t (λ (y : Artifact S D P G C). Contains (w.found ++ life.founded) y) (w.found ++ life.founded) life.course w.end w.lived (λ y at. at) x was.0 (goes-there g f t h behind w.end on (Found x was.0) was.1) in
+            ⊎_elim
+            (λ old. Contains-append_left w.ever (life.founded ++ fresh_of h) x (w.part x old))
+            (λ floor. Contains-append_right w.ever (life.founded ++ fresh_of h) x (Contains-append_left life.founded (fresh_of h) x floor))
+            (Contains-append_cases w.found life.founded x there))
+            (λ fresh. Contains-append_right w.ever (life.founded ++ fresh_of h) x (Contains-append_right life.founded (fresh_of h) x fresh))
+            (found-or-fresh g f t h x here);
+      }
 
 module _ {S D P G C : Type 0} (g : Ghosts S D P G C) (f : Formats S D P G C) (m : Members S D P G C) (i : ℕ) where
   -- points lead to a history on the way
-  pub among-goes : (left : List (Artifact S D P G C)) → Lives g f (m.setup i) [] (m.lives i) left → (life : Life S D P G C) (h : History S D P G C) → (at : HasReached m i life h) → Goes g f life.setup [] at.before h
-  among-goes left lives life h at =
-      let lived = lived-among g f (m.setup i) [] (m.lives i) left life lives at.among in
-      let goes = subst (λ (l : List (Point S D P G C)). Goes g f life.setup [] l lived.end) at.split (life-goes g f life.setup lived.found life.course lived.end lived.lived) in
+  pub among-goes : (all left : List (Artifact S D P G C)) → Lives g f (m.setup i) [] [] (m.lives i) all left → (life : Life S D P G C) (h : History S D P G C) → (at : HasReached m i life h) → Goes g f life.setup [] at.before h
+  among-goes all left lives life h at =
+      let lived = lived-among g f (m.setup i) (m.lives i) all left life lives at.among in
+      let goes = subst (λ (l : List (Point S D P G C)). Goes g f life.setup [] l lived.end) at.split (life-goes g f life.setup (lived.found ++ life.founded) life.course lived.end lived.lived) in
       subst (λ (k : History S D P G C). Goes g f life.setup [] at.before k) (sym at.is) (goes-part g f life.setup [] lived.end at.before at.behind goes)
 
 module _ {S D P G C : Type 0} (g : Ghosts S D P G C) (f : Formats S D P G C) (scheme : S) (m : Members S D P G C) (world : World S D P G C) (i : ℕ) (s : Setup S D C) where
@@ -244,6 +304,7 @@ module _ {S D P G C : Type 0} (g : Ghosts S D P G C) (f : Formats S D P G C) (sc
   turns-taken h (Went e points ∷ turns) end t handed = each-append (IsTaken g f scheme m world i s) points (turn_points turns)
       (step-each g f scheme m world i s (IsTaken g f scheme m world i s) (quiet-taken g f scheme m world i s) (came-taken g f scheme m world i s) h e points (handed e (Contains-head e (turn_events turns))) t.1)
       (turns-taken t.0 turns end t.3 (λ x there. handed x (Contains-rest e (turn_events turns) x there)))
+  turns-taken h (Rewrites c ∷ turns) end t handed = (tt, turns-taken (Rewrote c ∷ h) turns end t.1 handed)
 
   cut-taken : (h : History S D P G C) (cut : Option (Event D × List (Point S D P G C))) (end : History S D P G C) → IsCut g f s h cut end
       → ((e : Event D) → Contains (option_to_list (option_map (λ (c : Event D × List (Point S D P G C)). c.0) cut)) e → WasHanded g f scheme m world i e) → AreTaken g f scheme m world i s (cut_points cut)
@@ -263,11 +324,11 @@ module _ {S D P G C : Type 0} (g : Ghosts S D P G C) (f : Formats S D P G C) (sc
 module _ {S D P G C : Type 0} (g : Ghosts S D P G C) (f : Formats S D P G C) (scheme : S) (m : Members S D P G C) (world : World S D P G C) (i : ℕ) where
   -- a life of a correct member
   pub of-correct : LiveByNodes g f scheme m world → IsCorrect world i → (life : Life S D P G C) → Contains (m.lives i) life → IsLived g f (m.setup i) (world.recorded i) life
-  of-correct w correct life among = lived-among g f (m.setup i) [] (m.lives i) (world.recorded i) life (w.lived i correct) among
+  of-correct w correct life among = lived-among g f (m.setup i) (m.lives i) (world.recorded i) (w.lived i correct).0 life (w.lived i correct).1 among
 
   -- a history on the way: points lead to it, what it heard came in, what it recorded is recorded
   pub reached-goes : LiveByNodes g f scheme m world → IsCorrect world i → (life : Life S D P G C) (h : History S D P G C) → (at : HasReached m i life h) → Goes g f life.setup [] at.before h
-  reached-goes w correct life h at = among-goes g f m i (world.recorded i) (w.lived i correct) life h at
+  reached-goes w correct life h at = among-goes g f m i (world.recorded i) (w.lived i correct).0 (w.lived i correct).1 life h at
 
   pub reached-own : LiveByNodes g f scheme m world → IsCorrect world i → (life : Life S D P G C) (h : History S D P G C) → HasReached m i life h → IsOfOneMember (m.setup i) life.setup
   reached-own w correct life h at = (of-correct w correct life at.among).own
@@ -276,13 +337,12 @@ module _ {S D P G C : Type 0} (g : Ghosts S D P G C) (f : Formats S D P G C) (sc
   reached-heard w correct life h at =
       let s = life.setup in
       let lived = of-correct w correct life at.among in
-      let goes = subst (λ (l : List (Point S D P G C)). Goes g f s [] l lived.end) at.split (life-goes g f s lived.found life.course lived.end lived.lived) in
-      let taken = subst (λ (l : List (Point S D P G C)). AreTaken g f scheme m world i s l) at.split (life-taken g f scheme m world i s lived.found life.course lived.end lived.lived (λ e there. (life, at.among, there))) in
+      let taken = subst (λ (l : List (Point S D P G C)). AreTaken g f scheme m world i s l) at.split (life-taken g f scheme m world i s (lived.found ++ life.founded) life.course lived.end lived.lived (λ e there. (life, at.among, there))) in
+      let ever = ever-at g f (m.setup i) (world.recorded i) life lived at.before at.behind at.split h at.is in
       let here = goes-each (IsTaken g f scheme m world i s) g f s [] at.before h (reached-goes w correct life h at) (each-first (IsTaken g f scheme m world i s) at.before at.behind taken) tt in
       record {
         came = λ v there. each-there (IsTaken g f scheme m world i s) h here (Heard v) there;
-        recorded = λ x there. lived.kept x (grown g f s (after [] at.before) at.behind lived.end (goes-rest g f s [] lived.end at.before at.behind goes) x
-            (subst (λ (k : History S D P G C). Contains (record_of k) x) at.is there));
+        recorded = λ x there. subst (λ (l : List (Artifact S D P G C)). Contains l x) (sym ever.among) (Contains-append_left (lived.ever ++ (life.founded ++ fresh_of h)) ever.behind x (ever.known x there));
       }
 
   -- what a correct member handed out it did at a point of one of its lives, or when it refused an event
@@ -293,7 +353,7 @@ module _ {S D P G C : Type 0} (g : Ghosts S D P G C) (f : Formats S D P G C) (sc
       let lived = of-correct w correct life out.1 in
       ⊎_elim
       (λ at.
-      let goes = subst (λ (l : List (Point S D P G C)). Goes g f s [] l lived.end) at.split (life-goes g f s lived.found life.course lived.end lived.lived) in
+      let goes = subst (λ (l : List (Point S D P G C)). Goes g f s [] l lived.end) at.split (life-goes g f s (lived.found ++ life.founded) life.course lived.end lived.lived) in
       let rest = goes-rest g f s [] lived.end at.before (at.p ∷ at.behind) goes in
       inl (record {
         life = life;
@@ -320,4 +380,4 @@ module _ {S D P G C : Type 0} (g : Ghosts S D P G C) (f : Formats S D P G C) (sc
         first = at.first;
         done = at.done;
       }))
-      (life-done g f s lived.found life.course lived.end d lived.lived out.2)
+      (life-done g f s (lived.found ++ life.founded) life.course lived.end d lived.lived out.2)

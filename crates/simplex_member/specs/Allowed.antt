@@ -8,6 +8,7 @@ use Rattle.messages_certificates.specs.declared.artifact.Artifact.{Artifact}
 use Rattle.messages_certificates.specs.declared.artifact.Artifact.TheVariants as artifact
 use Rattle.messages_certificates.specs.declared.certificate.Certificate.{Certificate}
 use Rattle.messages_certificates.specs.declared.nullify.Nullify.{Nullify}
+use Rattle.messages_certificates.specs.ProposalCertificate.{Finalization}
 use Rattle.simplex_messages.specs.declared.vote.Vote.{Vote}
 use Rattle.simplex_messages.specs.declared.vote.Vote.TheVariants as vote
 use Rattle.messages_certificates.specs.Certificate.{certificate_round}
@@ -41,8 +42,8 @@ use Rattle.simplex_resolver.specs.Outstanding.{IsOutstanding}
 use Rattle.simplex_member.specs.Asked.{HasNumber, IsAnswered, IsAwaited, ancestry, backfill, build_at, check_at, last_heard, next_number}
 use Rattle.simplex_member.specs.Layers.{current_of, finalized_of, is_begun, known_of, latest, reason_of, repair_of, stage, voter_of, votes_of, votes_setup, Collected, IsUp}
 use Rattle.simplex_member.specs.Packet.{Formats, IsRecordable}
-use Rattle.simplex_member.specs.Point.{Outcome, Counts, Falls, Passes, Point, Opened, Found, Began, Told, Heard, Came, Wanted, Built, Checked, Judged, Leads, Forwards, Constructs, Latches, Polls, AsksBuild, AsksVerify, AsksCertify, GivesBack, LeavesBehind, PutsOff, Asks, Resolves, Votes, Repeats, History}
-use Rattle.simplex_member.specs.Recorded.{added_by, record_of, recorded_by}
+use Rattle.simplex_member.specs.Point.{Outcome, Counts, Falls, Passes, Point, Opened, Found, Began, Told, Heard, Came, Wanted, Built, Checked, Judged, Leads, Forwards, Constructs, Latches, Polls, AsksBuild, AsksVerify, AsksCertify, GivesBack, LeavesBehind, PutsOff, Asks, Resolves, Votes, Repeats, Rewrote, History}
+use Rattle.simplex_member.specs.Recorded.{added_by, kept_of, next_floor, record_of, recorded_by}
 use Rattle.simplex_member.specs.Refusals.{AdmitsVote}
 use Rattle.simplex_member.specs.Setup.{Setup, IsInTime, owner_of, member_of}
 
@@ -198,6 +199,12 @@ module _ {S D P G C : Type 0} (g : Ghosts S D P G C) (f : Formats S D P G C) (s 
     pub recorded : Contains (record_of h) (artifact.Nullify v)
     pub best_is : best ≡ best_certificate s.voter (voter_of s h)
 
+  -- the record may be rewritten so that it begins with this finalization, where terms have views
+  pub record MayRewrite (h : History S D P G C) (c : Finalization S D P G C) : Type 0 where
+    pub able : s.rewrites ≡ true
+    pub terms : 0 < s.voter.length
+    pub next : next_floor (kept_of s.voter.length h) ≡ Some c
+
   -- ---- all together
 
   -- a point was due, or came, and is taken so
@@ -231,6 +238,7 @@ module _ {S D P G C : Type 0} (g : Ghosts S D P G C) (f : Formats S D P G C) (s 
   IsDue h (Resolves view kind u) = MayResolve h view kind u
   IsDue h (Votes v) = VoteIsDue h v
   IsDue h (Repeats v best) = RepeatIsDue h v best
+  IsDue h (Rewrote c) = MayRewrite h c
 
   -- the opening comes first, then what the record said, and all else once that was gone through
   abbrev pub IsInOrder : History S D P G C → Point S D P G C → Type 0

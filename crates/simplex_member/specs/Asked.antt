@@ -14,7 +14,7 @@ use Rattle.simplex_member.specs.declared.asked.Asked.{Asked}
 use Rattle.simplex_member.specs.Layers.{finalized_of, latest, repair_of}
 use Rattle.simplex_member.specs.Packet.{Formats}
 use Rattle.simplex_member.specs.Point.{Opened, Heard, Built, Checked, AsksBuild, AsksVerify, AsksCertify, GivesBack, LeavesBehind, Asks, History}
-use Rattle.simplex_member.specs.Recorded.{record_of}
+use Rattle.simplex_member.specs.Recorded.{kept_of}
 use Rattle.simplex_member.specs.Setup.{Setup}
 
 -- the ask for what lets a member leave a view behind, and that for what a proposal rests on
@@ -59,9 +59,9 @@ module _ {S D P G C : Type 0} where
   last_heard (Heard v ∷ h) member = if vote_signer v == member then latest h else last_heard h member
   last_heard (p ∷ h) member = last_heard h member
 
-  -- a verdict on the view is recorded
-  abbrev pub IsJudged : History S D P G C → ℕ → Type 0
-  IsJudged h view = (r : Round) × (ok : Bool) × (r.view ≡ view) × HasJudged (entries (record_of h)) r ok
+  -- a verdict on the view is recorded, and kept since the last rewrite
+  abbrev pub IsJudged : Setup S D C → History S D P G C → ℕ → Type 0
+  IsJudged s h view = (r : Round) × (ok : Bool) × (r.view ≡ view) × HasJudged (entries (kept_of s.voter.length h)) r ok
 
   -- the request for a verdict on the view stands: it was asked for, and the view lies above the last finalized one
   pub record IsAwaited (s : Setup S D C) (h : History S D P G C) (view : ℕ) : Type 0 where
@@ -69,7 +69,7 @@ module _ {S D P G C : Type 0} where
     pub asked : Contains h (AsksCertify proposal)
     pub at : proposal.round.view ≡ view
     pub above : finalized_of s h < view
-    pub first : ¬ IsJudged h view
+    pub first : ¬ IsJudged s h view
 
   -- what other members were asked since the opening
   abbrev pub asks_of : History S D P G C → List Asked

@@ -9,10 +9,11 @@ use Rattle.types_core.specs.declared.scheme.Scheme.{Ghosts}
 use Rattle.types_core.specs.Positions.{HasRoom}
 use Rattle.types_core.specs.Subject.{Statement}
 use Rattle.messages_certificates.specs.declared.artifact.Artifact.{Artifact}
+use Rattle.messages_certificates.specs.declared.artifact.Artifact.TheVariants as artifact
 use Rattle.messages_certificates.specs.declared.certificate.Certificate.{Certificate}
 use Rattle.messages_certificates.specs.declared.certificate.Certificate.TheVariants as certificate
 use Rattle.messages_certificates.specs.declared.nullify.Nullify.{Nullify}
-use Rattle.messages_certificates.specs.ProposalCertificate.{Notarization}
+use Rattle.messages_certificates.specs.ProposalCertificate.{Finalization, Notarization}
 use Rattle.messages_certificates.specs.ProposalVote.{Finalize, Notarize}
 use Rattle.simplex_messages.specs.declared.activity.Activity.{Activity}
 use Rattle.simplex_messages.specs.declared.activity.Activity.TheVariants as activity
@@ -25,10 +26,11 @@ use Rattle.messages_certificates.specs.Certificate.{certificate_round, certifica
 use Rattle.simplex_messages.specs.VoteParts.{vote_round, vote_signer}
 use Rattle.types_terms.specs.declared.kind.Kind.{Kind}
 use Rattle.types_terms.specs.Windows.{HasExactly}
-use Rattle.simplex_record.specs.Record.{entries, entry, HasVoted}
+use Rattle.simplex_record.specs.Record.{entries, entry, floor, last_finalized, HasVoted}
+use Rattle.simplex_record.specs.Kept.{AreOfOneMember, IsBehind, IsFrom, StandsForAll}
 use Rattle.simplex_record.specs.Rules.{HasParentBelow, MayFollow, MayJudge, StandsInTheWay}
 use Rattle.simplex_record.specs.declared.owner.Owner.{Owner}
-use Rattle.simplex_record.specs.Lawful.{Fits, IsLawful, IsRefusedAt}
+use Rattle.simplex_record.specs.Lawful.{Fits, IsEverLawful, IsLawful, IsRecorded, IsRefusedAt, VotesLawfully, rewritten}
 use Rattle.simplex_record.specs.Chain.{MayFollowOnGround, OneChain, StandsOnGround}
 use Rattle.simplex_record.specs.World.{World, IsCorrect, IsHonest, IsSound}
 use Rattle.simplex_record.specs.Agreement.{OneProposalAView, NoFinalizedViewNullified, NoFinalizedViewSkipped}
@@ -48,6 +50,7 @@ use Rattle.voter_rules.specs.GivingUp.{IsTracked}
 use Rattle.voter_laws.specs.Matching as voter
 use Rattle.voter_laws.specs.Matching.{IsOrderly, IsBound, round_of}
 use Rattle.voter_laws.specs.Placing.{AreOfTheirViews}
+use Rattle.voter_laws.specs.Recording.{EachRecordIsKnown}
 use Rattle.journal_single.specs.Record.{IsForeign, Reads}
 use Rattle.simplex_member.specs.declared.action.Reply.{Reply}
 use Rattle.simplex_member.specs.declared.event.Channel.{Channel}
@@ -65,11 +68,11 @@ use Rattle.simplex_resolver.specs.Answers.{produced}
 use Rattle.simplex_resolver.specs.RepairHistory as repair
 use Rattle.simplex_member.specs.Deeds.{Deed, Sends, Serves, Blocks, Reports, all_deeds, deeds_of}
 use Rattle.simplex_member.specs.Layers.{current_of, finalized_of, floor_of, is_begun, known_of, repair_of, stage, voter_of, votes_of, votes_setup, Collected, IsUp}
-use Rattle.simplex_member.specs.Lives.{Life, Lives, Members, LiveByNodes, AtMostFLie, AreFaithful, HandedOut, CameIn, IsHonestVote, WasHanded, points_of}
+use Rattle.simplex_member.specs.Lives.{Life, Lives, Members, LiveByNodes, AtMostFLie, AreFaithful, HandedOut, CameIn, IsHonestVote, WasBrought, WasHanded, points_of}
 use Rattle.simplex_member.specs.Member.{AreOpening, Goes, NoneDue, Run, AreStep, after}
 use Rattle.simplex_member.specs.Packet.{Formats, IsReadable, IsRecordable, Packet, of_vote, of_certificate, of_ask, packet_channel, packet_of}
 use Rattle.simplex_member.specs.Point.{Point, Opened, Began, Constructs, Heard, Wanted, Asks, Repeats, Votes, History}
-use Rattle.simplex_member.specs.Recorded.{added_by, notarization_in, record_of, recorded_by, reported}
+use Rattle.simplex_member.specs.Recorded.{added_by, fresh_of, kept_of, notarization_in, record_of, recorded_by, reported}
 use Rattle.simplex_member.specs.Setup.{Setup, DeadlinesLieAhead, GoesByMembers, IsInTime, IsOfOneMember, owner_of, member_of}
 
 -- payloads that are compared as one are one
@@ -95,6 +98,29 @@ pub record RecordLaws {S D P G C : Type 0} (g : Ghosts S D P G C) : Type 0 where
   pub first : (own : S) (owner : Owner) → IsLawful {S = S} {P = P} (g.attests own) (g.certifies own) owner []
   pub further : (own : S) (owner : Owner) (before : List (Artifact S D P G C)) (x : Artifact S D P G C) → IsLawful (g.attests own) (g.certifies own) owner before → Fits (g.attests own) (g.certifies own) owner before x
       → IsLawful (g.attests own) (g.certifies own) owner (before ++ x ∷ [])
+
+-- and of the three lists of a member: of all that it ever recorded, of what its opening found and recorded since, and of what is kept
+pub record ListLaws {S D P G C : Type 0} (g : Ghosts S D P G C) : Type 0 where
+  pub first : (own : S) (owner : Owner) → AreOfOneMember {S = S} {P = P} (g.attests own) (g.certifies own) owner [] [] []
+  pub opens : (own : S) (owner : Owner) (ever opened kept : List (Artifact S D P G C)) → AreOfOneMember (g.attests own) (g.certifies own) owner ever opened kept
+      → AreOfOneMember (g.attests own) (g.certifies own) owner ever kept kept
+  pub records : (own : S) (owner : Owner) (ever opened kept : List (Artifact S D P G C)) (x : Artifact S D P G C) → 0 < owner.term_length
+      → AreOfOneMember (g.attests own) (g.certifies own) owner ever opened kept → IsFrom (floor (entries opened)) (entry x) → IsBehind (floor (entries kept)) (entry x)
+      → Fits (g.attests own) (g.certifies own) owner opened x → AreOfOneMember (g.attests own) (g.certifies own) owner (ever ++ x ∷ []) (opened ++ x ∷ []) (kept ++ x ∷ [])
+  pub rewrites : (own : S) (owner : Owner) (ever opened kept : List (Artifact S D P G C)) (c : Finalization S D P G C) → AreOfOneMember (g.attests own) (g.certifies own) owner ever opened kept
+      → Contains kept (artifact.Finalization c) → c.proposal.round.view ≡ last_finalized (entries kept)
+      → AreOfOneMember (g.attests own) (g.certifies own) owner ever opened (rewritten owner.term_length c kept)
+  pub kept : (own : S) (owner : Owner) (ever kept : List (Artifact S D P G C)) → 0 < owner.term_length → IsRecorded (g.attests own) (g.certifies own) owner ever kept
+      → IsLawful (g.attests own) (g.certifies own) owner kept × StandsForAll owner.term_length (entries ever) (entries kept)
+  pub ever : (own : S) (owner : Owner) (all : List (Artifact S D P G C)) → IsEverLawful (g.attests own) (g.certifies own) owner all
+      → VotesLawfully (g.attests own) (g.certifies own) owner all
+
+-- what the laws of lives take: those of records and of a member's lists, and that the voter knows just what its record says
+pub record LifeLaws {S D P G C : Type 0} (g : Ghosts S D P G C) : Type 0 where
+  pub records : RecordLaws g
+  pub lists : ListLaws g
+  pub matches : voter.EachHistoryMatches S D P G C
+  pub known : EachRecordIsKnown S D P G C
 
 -- no deadline that is counted from a moment is cut at the last one of 64 bits
 pub record AreUncut {S D C : Type 0} (s : Setup S D C) (now : ℕ) : Type 0 where
@@ -315,31 +341,31 @@ module _ {S D P G C : Type 0} (g : Ghosts S D P G C) (f : Formats S D P G C) (s 
 
   -- an image reads as one record alone: so what an opening finds is what was left, and lives follow one another as `Lives` says
   abbrev pub OneIsRead : (Artifact S D P G C → Type 0) → Type 0
-  OneIsRead Fits = (h : History S D P G C) (image : List ℕ) (found : List (Artifact S D P G C)) → All Fits (record_of h) → All Fits found
-      → Reads image (map f.artifact (record_of h)) → Reads image (map f.artifact found) → found ≡ record_of h
+  OneIsRead Fits = (h : History S D P G C) (image : List ℕ) (found : List (Artifact S D P G C)) → All Fits (kept_of s.voter.length h)
+      → All Fits found → Reads image (map f.artifact (kept_of s.voter.length h)) → Reads image (map f.artifact found) → found ≡ kept_of s.voter.length h
 
   -- what a life leaves is lawful: an opening never answers that it contradicts
   abbrev pub LivesLeaveLawful : Type 0
-  LivesLeaveLawful = (lives : List (Life S D P G C)) (left : List (Artifact S D P G C)) → Lives g f s [] lives left
+  LivesLeaveLawful = (lives : List (Life S D P G C)) (all left : List (Artifact S D P G C)) → Lives g f s [] [] lives all left
       → IsLawful (g.attests s.voter.scheme) (g.certifies s.voter.scheme) (owner_of s) left
 
-  -- and each artifact of it can be read again
+  -- and each artifact that they ever recorded can be read again
   abbrev pub LivesLeaveReadable : Type 0
-  LivesLeaveReadable = (lives : List (Life S D P G C)) (left : List (Artifact S D P G C)) → Lives g f s [] lives left
-      → (x : Artifact S D P G C) → Contains left x → IsRecordable f x
+  LivesLeaveReadable = (lives : List (Life S D P G C)) (all left : List (Artifact S D P G C)) → Lives g f s [] [] lives all left
+      → (x : Artifact S D P G C) → Contains all x → IsRecordable f x
 
   -- so a disk that reads as what lives left holds no foreign entry, by what the disk takes for an artifact
   abbrev pub NeverForeign : (Artifact S D P G C → Type 0) → Type 0
-  NeverForeign Fits = (lives : List (Life S D P G C)) (left : List (Artifact S D P G C)) (image : List ℕ) (place : ℕ) → Lives g f s [] lives left
+  NeverForeign Fits = (lives : List (Life S D P G C)) (all left : List (Artifact S D P G C)) (image : List ℕ) (place : ℕ) → Lives g f s [] [] lives all left
       → Reads image (map f.artifact left) → ¬ IsForeign [] Fits f.artifact image place
 
   -- and it reads as no other artifacts: what an opening finds is what was left
   abbrev pub LeftIsFound : (Artifact S D P G C → Type 0) → Type 0
-  LeftIsFound Fits = (lives : List (Life S D P G C)) (left found : List (Artifact S D P G C)) (image : List ℕ) → Lives g f s [] lives left
+  LeftIsFound Fits = (lives : List (Life S D P G C)) (all left found : List (Artifact S D P G C)) (image : List ℕ) → Lives g f s [] [] lives all left
       → Reads image (map f.artifact left) → All Fits found → Reads image (map f.artifact found) → found ≡ left
 
   abbrev pub NeverContradicts : Type 0
-  NeverContradicts = (lives : List (Life S D P G C)) (left : List (Artifact S D P G C)) (position : ℕ) → Lives g f s [] lives left
+  NeverContradicts = (lives : List (Life S D P G C)) (all left : List (Artifact S D P G C)) (position : ℕ) → Lives g f s [] [] lives all left
       → ¬ IsRefusedAt (g.attests s.voter.scheme) (g.certifies s.voter.scheme) (owner_of s) left position
 
 -- the certificate that a report is, or that it says was judged good
@@ -417,23 +443,39 @@ module _ {S D P G C : Type 0} (g : Ghosts S D P G C) (f : Formats S D P G C) whe
       → (i sender : ℕ) → IsCorrect world i → (c : Certificate S D P G C) → CameIn g f scheme m world i sender (of_certificate c)
       → g.certifies (m.setup i).voter.scheme (certificate_statement c) (certified_by c) → IsSound (g.attests scheme) g.lists world c
 
-  -- by its own index, one of a committee of its scheme, on a disk that was empty at first, a member lived lives that left this
-  pub record HasLived (m : Members S D P G C) (i : ℕ) (left : List (Artifact S D P G C)) : Type 0 where
+  -- and so is the floor that an opening brought, where it certifies
+  abbrev pub BroughtFloorsAreSound : Type 0
+  BroughtFloorsAreSound = (scheme : S) (m : Members S D P G C) (world : World S D P G C) → LiveByNodes g f scheme m world
+      → (i : ℕ) → IsCorrect world i → (c : Certificate S D P G C) → WasBrought g f scheme m world i c
+      → g.certifies (m.setup i).voter.scheme (certificate_statement c) (certified_by c) → IsSound (g.attests scheme) g.lists world c
+
+  -- by its own index, one of a committee of its scheme, on disks that were empty at first, a member lived lives, and ever recorded this
+  pub record HasLived (m : Members S D P G C) (i : ℕ) (all : List (Artifact S D P G C)) : Type 0 where
     pub me : (m.setup i).voter.me ≡ Some (m.setup i).me
     pub member : (m.setup i).me < g.size (m.setup i).voter.scheme
-    pub lives : Lives g f (m.setup i) [] (m.lives i) left
+    pub left : List (Artifact S D P G C)
+    pub lives : Lives g f (m.setup i) [] [] (m.lives i) all left
 
-  -- what its lives leave stands on ground, in a committee of any size
+  -- what it ever recorded stands on ground, in a committee of any size
   abbrev pub LeftStandsOnGround : Type 0
-  LeftStandsOnGround = (m : Members S D P G C) (i : ℕ) (left : List (Artifact S D P G C)) → HasLived m i left
-      → StandsOnGround (g.size (m.setup i).voter.scheme) (m.setup i).voter.length (scheduled_leader (m.setup i).voter) (m.setup i).me (entries left)
+  LeftStandsOnGround = (m : Members S D P G C) (i : ℕ) (all : List (Artifact S D P G C)) → HasLived m i all
+      → StandsOnGround (g.size (m.setup i).voter.scheme) (m.setup i).voter.length (scheduled_leader (m.setup i).voter) (m.setup i).me (entries all)
 
-  -- and so does what may come next at a history on their way, once the record was gone through
+  -- of all that a member ever recorded, what it had recorded at a history on a life's way: before that life, and since
+  pub record IsEverAt (all : List (Artifact S D P G C)) (life : Life S D P G C) (h : History S D P G C) (ever : List (Artifact S D P G C)) : Type 0 where
+    pub before : List (Artifact S D P G C)
+    pub behind : List (Artifact S D P G C)
+    pub since : ever ≡ before ++ (life.founded ++ fresh_of h)
+    pub among : all ≡ ever ++ behind
+    pub known : (x : Artifact S D P G C) → Contains (record_of h) x → Contains ever x
+
+  -- and so does what may come next at a history on their way, once the record was gone through, by all that was recorded till then
   abbrev pub NextStandsOnGround : Type 0
-  NextStandsOnGround = (m : Members S D P G C) (i : ℕ) (left : List (Artifact S D P G C))
+  NextStandsOnGround = (m : Members S D P G C) (i : ℕ) (all : List (Artifact S D P G C))
       (life : Life S D P G C) (h : History S D P G C) (p : Point S D P G C) (x : Artifact S D P G C)
-      → HasLived m i left → HasReached m i life h → Allowed g f life.setup h p → is_begun h ≡ true → recorded_by p ≡ Some x
-      → MayFollowOnGround (g.size (m.setup i).voter.scheme) (m.setup i).voter.length (scheduled_leader (m.setup i).voter) (m.setup i).me (entries (record_of h)) (entry x)
+      → HasLived m i all → HasReached m i life h → Allowed g f life.setup h p → is_begun h ≡ true → recorded_by p ≡ Some x
+      → (ever : List (Artifact S D P G C)) × IsEverAt all life h ever
+      × MayFollowOnGround (g.size (m.setup i).voter.scheme) (m.setup i).voter.length (scheduled_leader (m.setup i).voter) (m.setup i).me (entries ever) (entry x)
 
   -- finalized views lie on one chain, where all go by one schedule
   abbrev pub LieOnOneChain : Type 0

@@ -15,7 +15,7 @@ use Rattle.simplex_messages.specs.VoteParts.{vote_round}
 use Rattle.voter_history.specs.declared.timeout_reason.TimeoutReason.{TimeoutReason}
 use Rattle.voter_history.specs.declared.timeout_reason.TimeoutReason.TheVariants as reason
 use Rattle.voter_history.specs.History as views
-use Rattle.voter_history.specs.History.{started, notarized, nullified, finalized, judged, forwarded, built, confirmed, unbound, latched, build_asked, build_released, verify_asked, ancestry_asked, certify_asked, certify_waited, voted_notarize, voted_nullify, voted_finalize, polled, pruned, current, last_finalized, min_active}
+use Rattle.voter_history.specs.History.{started, based, notarized, nullified, finalized, judged, forwarded, built, confirmed, unbound, latched, build_asked, build_released, verify_asked, ancestry_asked, certify_asked, certify_waited, voted_notarize, voted_nullify, voted_finalize, polled, pruned, current, last_finalized, min_active}
 use Rattle.voter_history.specs.Known.{Known, known}
 use Rattle.voter_views.specs.Views.{recalls}
 use Rattle.voter_rules.specs.Building.{proposal_on}
@@ -25,7 +25,7 @@ use Rattle.batcher_verifier.specs.ConstructionResult.{after}
 use Rattle.simplex_resolver.specs.RepairHistory as repair
 use Rattle.simplex_resolver.specs.RepairHistory.{Item, Replayed, item_of}
 use Rattle.simplex_member.specs.Packet.{Formats}
-use Rattle.simplex_member.specs.Point.{Outcome, Counts, Falls, Passes, Point, Opened, Found, Began, Told, Heard, Came, Built, Checked, Judged, Leads, Forwards, Constructs, Latches, Polls, AsksBuild, AsksVerify, AsksCertify, GivesBack, PutsOff, Resolves, Votes, Repeats, History}
+use Rattle.simplex_member.specs.Point.{Outcome, Counts, Falls, Passes, Point, Opened, Found, Began, Told, Heard, Came, Built, Checked, Judged, Leads, Forwards, Constructs, Latches, Polls, AsksBuild, AsksVerify, AsksCertify, GivesBack, PutsOff, Resolves, Votes, Repeats, Rewrote, History}
 use Rattle.simplex_member.specs.Recorded.{notarization_in, record_of}
 use Rattle.simplex_member.specs.Setup.{Setup}
 
@@ -139,7 +139,7 @@ module _ {S D P G C : Type 0} where
   module _ (s : Setup S D C) where
     -- what a point says of the voter, at a moment and above the last finalized view
     abbrev pub voter_points : ℕ → ℕ → Point S D P G C → List (views.Point S D P G C)
-    voter_points now low (Opened t) = started t (Some s.genesis) ∷ []
+    voter_points now low (Opened t) = started t s.genesis ∷ []
     voter_points now low (Found x taken) = finds now x taken
     voter_points now low Began = pruned ∷ []
     voter_points now low (Came c) = takes_certificate now low c
@@ -159,6 +159,7 @@ module _ {S D P G C : Type 0} where
     voter_points now low (Resolves view kind u) = ancestry_asked view u ∷ []
     voter_points now low (Votes v) = casts v ∷ []
     voter_points now low (Repeats v best) = voted_nullify v.round.view ∷ []
+    voter_points now low (Rewrote c) = based c.proposal.round.view ∷ []
     voter_points now low p = []
 
     -- the voter's history

@@ -12,4 +12,5 @@ pub mod Member
 pub mod Doing
 pub mod Lives
 pub mod Laws
+pub mod Floors
 pub mod Sent

@@ -1,9 +1,12 @@
 -- A member's lives: openings one after another, each by a setup of its own and with the events that came, until a crash or a fault. And
 -- members that live so, beside others that may do anything.
-use Rattle.std.specs.Prelude.{◌≡◌, ◌<◌, ◌≤◌, ◌++◌, ℕ, List, [], ◌∷◌, length, Contains, Option, Some, None, option_map, option_to_list, unwrap_or, ⊤}
+use Rattle.std.specs.Prelude.{◌≡◌, ◌<◌, ◌≤◌, ◌++◌, ◌⊎◌, ℕ, List, [], ◌∷◌, length, Contains, Option, Some, None, option_map, option_to_list, unwrap_or, ⊤}
 use Rattle.types_core.specs.declared.scheme.Scheme.{Ghosts}
 use Rattle.types_quorum.specs.Committee.{faults}
 use Rattle.messages_certificates.specs.declared.artifact.Artifact.{Artifact}
+use Rattle.messages_certificates.specs.declared.certificate.Certificate.{Certificate}
+use Rattle.messages_certificates.specs.declared.certificate.Certificate.TheVariants as certificate
+use Rattle.messages_certificates.specs.ProposalCertificate.{Finalization}
 use Rattle.simplex_messages.specs.declared.vote.Vote.{Vote}
 use Rattle.simplex_messages.specs.VoteParts.{vote_signer}
 use Rattle.simplex_record.specs.Record.{entries, HasVoted}
@@ -16,17 +19,19 @@ use Rattle.simplex_member.specs.declared.event.Event.TheVariants as event
 use Rattle.simplex_member.specs.declared.refusal.Refusal.{Refusal}
 use Rattle.simplex_member.specs.Deeds.{Deed, Sends, Serves, all_deeds}
 use Rattle.simplex_member.specs.First.{IsFirst}
-use Rattle.simplex_member.specs.Member.{AreOpening, AreStep, Goes, Rests, after}
-use Rattle.simplex_member.specs.Packet.{Formats, Packet, of_vote, of_certificate, of_ask, packet_channel}
-use Rattle.simplex_member.specs.Point.{Point, History}
-use Rattle.simplex_member.specs.Recorded.{record_of}
+use Rattle.simplex_member.specs.Member.{AppendsFloor, AreOpening, AreStep, Goes, IsRewritten, Rests, after}
+use Rattle.simplex_member.specs.Packet.{Formats, IsRecordable, Packet, of_vote, of_certificate, of_ask, packet_channel}
+use Rattle.simplex_member.specs.Point.{Point, Rewrote, History}
+use Rattle.simplex_member.specs.Recorded.{fresh_of, kept_of}
 use Rattle.simplex_member.specs.Refusals.{tests, refused_deeds}
 use Rattle.simplex_member.specs.Setup.{IsOfOneMember, Setup, owner_of}
 
--- an event that was refused, or taken, with what it led to
+-- an event that was refused, or taken, with what it led to; or the record was rewritten. Of a rewrite that was cut off the old record is
+-- left or the new one: it wasn't, or it was the last turn
 pub data Turn (S D P G C : Type 0) : Type 0 where
   Refuses : Event D → Refusal → Turn S D P G C
   Went : Event D → List (Point S D P G C) → Turn S D P G C
+  Rewrites : Finalization S D P G C → Turn S D P G C
 
 -- one opening at a moment and what came of it: how it went through the record, then what it did. It was cut off; or it rested, and turns followed,
 -- of which the last may have been cut off behind an event
@@ -34,22 +39,20 @@ pub data Course (S D P G C : Type 0) : Type 0 where
   Broken : ℕ → List (Point S D P G C) → Course S D P G C
   Lasting : ℕ → List (Point S D P G C) → List (Turn S D P G C) → Option (Event D × List (Point S D P G C)) → Course S D P G C
 
--- a life: how its node was set up, and its course
+-- a life: how its node was set up, the floor that its opening brought, if it did, what was recorded of that, and its course
 pub record Life (S D P G C : Type 0) : Type 0 where
   pub setup : Setup S D C
+  pub brought : Option (Finalization S D P G C)
+  pub founded : List (Artifact S D P G C)
   pub course : Course S D P G C
 
 module _ {S D P G C : Type 0} where
-  -- the event of a turn
-  abbrev pub event_of : Turn S D P G C → Event D
-  event_of (Refuses e r) = e
-  event_of (Went e points) = e
-
   -- what a turn led to
   abbrev pub turn_points : List (Turn S D P G C) → List (Point S D P G C)
   turn_points [] = []
   turn_points (Refuses e r ∷ turns) = turn_points turns
   turn_points (Went e points ∷ turns) = points ++ turn_points turns
+  turn_points (Rewrites c ∷ turns) = Rewrote c ∷ turn_points turns
 
   -- all points of a life
   abbrev pub points_of : Course S D P G C → List (Point S D P G C)
@@ -58,7 +61,9 @@ module _ {S D P G C : Type 0} where
 
   abbrev pub turn_events : List (Turn S D P G C) → List (Event D)
   turn_events [] = []
-  turn_events (t ∷ turns) = event_of t ∷ turn_events turns
+  turn_events (Refuses e r ∷ turns) = e ∷ turn_events turns
+  turn_events (Went e points ∷ turns) = e ∷ turn_events turns
+  turn_events (Rewrites c ∷ turns) = turn_events turns
 
   -- all events that were handed in
   abbrev pub events_of : Course S D P G C → List (Event D)
@@ -71,6 +76,7 @@ module _ {S D P G C : Type 0} (g : Ghosts S D P G C) (f : Formats S D P G C) (s 
   Turns h [] end = end ≡ h
   Turns h (Refuses e r ∷ turns) end = IsFirst (tests g f s h e) (Some r) × Turns h turns end
   Turns h (Went e points ∷ turns) end = (mid : History S D P G C) × AreStep g f s h e points × Rests g f s h points mid × Turns mid turns end
+  Turns h (Rewrites c ∷ turns) end = IsRewritten g f s h c × Turns (Rewrote c ∷ h) turns end
 
   -- the last turn was cut off, if one was
   abbrev pub IsCut : History S D P G C → Option (Event D × List (Point S D P G C)) → History S D P G C → Type 0
@@ -88,6 +94,7 @@ module _ {S D P G C : Type 0} (g : Ghosts S D P G C) (f : Formats S D P G C) (s 
   turn_deeds h [] = []
   turn_deeds h (Refuses e r ∷ turns) = refused_deeds g f s h e r ++ turn_deeds h turns
   turn_deeds h (Went e points ∷ turns) = all_deeds g f s h points ++ turn_deeds (after h points) turns
+  turn_deeds h (Rewrites c ∷ turns) = turn_deeds (Rewrote c ∷ h) turns
 
   -- what a life handed out: nothing of what was cut off
   abbrev pub handed_out : Course S D P G C → List (Deed S D P G C)
@@ -95,12 +102,25 @@ module _ {S D P G C : Type 0} (g : Ghosts S D P G C) (f : Formats S D P G C) (s 
   handed_out (Lasting now points turns cut) = all_deeds g f s [] points ++ turn_deeds (after [] points) turns
 
 module _ {S D P G C : Type 0} (g : Ghosts S D P G C) (f : Formats S D P G C) where
-  -- lives of the member that this is a setup of, one after the other: each is set up for it, and finds what the one before has left,
-  -- which is the record at its end, also where that was cut off
-  abbrev pub Lives : Setup S D C → List (Artifact S D P G C) → List (Life S D P G C) → List (Artifact S D P G C) → Type 0
-  Lives s found [] left = left ≡ found
-  Lives s found (life ∷ lives) left =
-      (end : History S D P G C) × Lived g f life.setup found life.course end × Lives s (record_of end) lives left × IsOfOneMember s life.setup
+  -- what an opening recorded of the floor that it brought, behind what it found: none of it, where it was cut off before
+  abbrev pub Appends : Course S D P G C → Option (Finalization S D P G C) → (found founded : List (Artifact S D P G C)) → Type 0
+  Appends (Broken now points) brought found founded = (founded ≡ []) ⊎ AppendsFloor brought found founded
+  Appends (Lasting now points turns cut) brought found founded = AppendsFloor brought found founded
+
+  -- so did that of a life, and it can be read again
+  pub record Founds (found : List (Artifact S D P G C)) (life : Life S D P G C) : Type 0 where
+    pub appends : Appends life.course life.brought found life.founded
+    pub readable : (x : Artifact S D P G C) → Contains life.founded x → IsRecordable f x
+
+  -- lives of the member that this is a setup of, one after the other, from where it had ever recorded the first list, of which the second
+  -- was kept: each is set up for it, and finds what the one before has left, which is what was kept at its end, also where that was cut off.
+  -- At last it has ever recorded the third list, and the fourth is left
+  abbrev pub Lives : Setup S D C → (ever found : List (Artifact S D P G C)) → List (Life S D P G C) → (all left : List (Artifact S D P G C)) → Type 0
+  Lives s ever found [] all left = (all ≡ ever) × (left ≡ found)
+  Lives s ever found (life ∷ lives) all left =
+      (end : History S D P G C) × Founds found life
+      × Lived g f life.setup (found ++ life.founded) life.course end
+      × Lives s (ever ++ (life.founded ++ fresh_of end)) (kept_of life.setup.voter.length end) lives all left × IsOfOneMember s life.setup
 
 -- members: a setup of each, of which what is fixed for good counts alone, and its lives
 pub record Members (S D P G C : Type 0) : Type 0 where
@@ -126,6 +146,10 @@ module _ {S D P G C : Type 0} (g : Ghosts S D P G C) (f : Formats S D P G C) (sc
   abbrev pub CameIn : ℕ → ℕ → Packet S D P G C → Type 0
   CameIn i sender x = (e : Event D) × WasHanded i e × Holds e sender x
 
+  -- this certificate is the floor that an opening of a member brought
+  abbrev pub WasBrought : ℕ → Certificate S D P G C → Type 0
+  WasBrought i c = (life : Life S D P G C) × Contains (m.lives i) life × (option_map certificate.Finalization life.brought ≡ Some c)
+
   -- a member handed this out
   abbrev pub HandedOut : ℕ → Deed S D P G C → Type 0
   HandedOut i d = (life : Life S D P G C) × Contains (m.lives i) life × Contains (handed_out g f life.setup life.course) d
@@ -141,16 +165,18 @@ module _ {S D P G C : Type 0} (g : Ghosts S D P G C) (f : Formats S D P G C) (sc
   IsHonestPacket (of_certificate c) = IsHonest (g.attests scheme) g.lists world c
   IsHonestPacket (of_ask view) = ⊤
 
-  -- Members that live by their nodes, each on a disk that was empty at first. Of each that isn't excused, the scheme is like the
-  -- committee's; its record is what its lives have left; and all that comes in is honest
+  -- Members that live by their nodes, each on one disk or two that were empty at first. Of each that isn't excused, the scheme is like the
+  -- committee's; its lives recorded what it ever recorded; and all that comes in is honest, also the floors that openings bring
   pub record LiveByNodes : Type 0 where
     pub alike : (i : ℕ) → IsCorrect world i
         → IsAlike world.size (g.attests scheme) (g.size (m.setup i).voter.scheme) (g.attests (m.setup i).voter.scheme)
     pub owner : (i : ℕ) → IsCorrect world i
         → owner_of (m.setup i) ≡ record { epoch = world.epoch; term_length = world.term_length; signer = i }
     pub me : (i : ℕ) → IsCorrect world i → (m.setup i).voter.me ≡ Some i
-    pub lived : (i : ℕ) → IsCorrect world i → Lives g f (m.setup i) [] (m.lives i) (world.recorded i)
+    pub lived : (i : ℕ) → IsCorrect world i
+        → (left : List (Artifact S D P G C)) × Lives g f (m.setup i) [] [] (m.lives i) (world.recorded i) left
     pub honest : (i sender : ℕ) → IsCorrect world i → (x : Packet S D P G C) → CameIn i sender x → IsHonestPacket x
+    pub floors : (i : ℕ) → IsCorrect world i → (c : Certificate S D P G C) → WasBrought i c → IsHonest (g.attests scheme) g.lists world c
 
   -- a deed hands out these bytes by this channel
   abbrev pub HasBytes : Channel → List ℕ → Deed S D P G C → Type 0

@@ -1,9 +1,11 @@
 -- The member model: how a node goes from point to point, what a step and an opening are, and a whole run.
-use Rattle.std.specs.Prelude.{◌≡◌, ◌≢◌, ◌⊎◌, ◌<◌, ◌++◌, ℕ, Bool, map, List, [], ◌∷◌, Option, Some, None, MatchOption, ⊤}
+use Rattle.std.specs.Prelude.{◌≡◌, ◌≢◌, ◌⊎◌, ◌<◌, ◌++◌, nat_lt, ℕ, Bool, map, List, [], ◌∷◌, Option, Some, None, MatchOption, if◌then◌else◌, ⊤}
 use Rattle.types_core.specs.declared.context.Context.{Context}
 use Rattle.types_core.specs.declared.proposal.Proposal.{Proposal}
 use Rattle.types_core.specs.declared.scheme.Scheme.{Ghosts}
 use Rattle.messages_certificates.specs.declared.artifact.Artifact.{Artifact}
+use Rattle.messages_certificates.specs.declared.artifact.Artifact.TheVariants as artifact
+use Rattle.messages_certificates.specs.ProposalCertificate.{Finalization}
 use Rattle.simplex_messages.specs.VoteParts.{vote_signer}
 use Rattle.voter_history.specs.declared.timeout_reason.TimeoutReason.{TimeoutReason}
 use Rattle.voter_history.specs.declared.timeout_reason.TimeoutReason.TheVariants as reason
@@ -26,8 +28,9 @@ use Rattle.simplex_member.specs.Deeds.{Deed, Wakes, AreActions, all_deeds}
 use Rattle.simplex_member.specs.First.{IsFirst}
 use Rattle.simplex_member.specs.Layers.{current_of, known_of, latest, stage, voter_of, votes_of, votes_setup, Collected, IsUp}
 use Rattle.simplex_member.specs.Packet.{Formats, Packet, of_vote, of_certificate, of_ask}
-use Rattle.simplex_member.specs.Point.{Point, Opened, Found, Began, Told, Heard, Came, Wanted, Built, Checked, Judged, AreActs, History}
-use Rattle.simplex_member.specs.Recorded.{record_of}
+use Rattle.simplex_record.specs.Record.{entries, last_finalized}
+use Rattle.simplex_member.specs.Point.{Point, Opened, Found, Began, Told, Heard, Came, Wanted, Built, Checked, Judged, Rewrote, AreActs, History}
+use Rattle.simplex_member.specs.Recorded.{kept_of, record_of}
 use Rattle.simplex_member.specs.Refusals.{tests, refused_deeds}
 use Rattle.simplex_member.specs.Setup.{Setup, member_of}
 
@@ -37,6 +40,13 @@ module _ {S D P G C : Type 0} where
   AreFound [] [] = ⊤
   AreFound (x ∷ xs) (Found y taken ∷ points) = (y ≡ x) × AreFound xs points
   AreFound xs points = ⊥
+
+  -- the floor that an opening brings is recorded behind what it found, where that is of no view as high: then it goes through both, and so
+  -- that is reported once, and handed to nobody
+  abbrev pub AppendsFloor : Option (Finalization S D P G C) → (found founded : List (Artifact S D P G C)) → Type 0
+  AppendsFloor None found founded = founded ≡ []
+  AppendsFloor (Some c) found founded =
+      founded ≡ (if nat_lt (last_finalized (entries found)) c.proposal.round.view then artifact.Finalization c ∷ [] else [])
 
   -- the point that a packet of a sender is, where it is taken
   abbrev pub IsPacketPoint : ℕ → Option (Packet S D P G C) → Point S D P G C → Type 0
@@ -151,6 +161,11 @@ module _ {S D P G C : Type 0} (g : Ghosts S D P G C) (f : Formats S D P G C) (s 
     pub goes : Goes h points end
     pub none_due : NoneDue end
 
+  -- the record is rewritten behind this finalization, and nothing is due behind that: nothing is handed out
+  pub record IsRewritten (h : History S D P G C) (c : Finalization S D P G C) : Type 0 where
+    pub allowed : Allowed g f s h (Rewrote c)
+    pub none_due : NoneDue (Rewrote c ∷ h)
+
   -- these actions are what points hand out, with the wake of where they led as the last
   pub record AreActionsOf (h : History S D P G C) (points : List (Point S D P G C)) (end : History S D P G C) (actions : List (Action S D P G C)) : Type 0 where
     pub last : List (Deed S D P G C)
@@ -185,7 +200,14 @@ module _ {S D P G C : Type 0} (g : Ghosts S D P G C) (f : Formats S D P G C) (s 
 
   -- ---- a crash at any moment
 
-  -- what is read is the record of a history: a body for each artifact
+  -- what is read is what is kept, a body for each artifact; and so what a rewrite may leave, the record before it or the one behind it
+  abbrev pub ReadsAsKept : List (List ℕ) → History S D P G C → Type 0
+  ReadsAsKept read h = read ≡ map f.artifact (kept_of s.voter.length h)
+
+  abbrev pub IsRewriting : History S D P G C → Finalization S D P G C → List (List ℕ) → Type 0
+  IsRewriting h c read = ReadsAsKept read h ⊎ (IsRewritten h c × ReadsAsKept read (Rewrote c ∷ h))
+
+  -- the same of a history in which nothing is rewritten, so that all is kept
   abbrev pub ReadsAs : List (List ℕ) → History S D P G C → Type 0
   ReadsAs read h = read ≡ map f.artifact (record_of h)
 

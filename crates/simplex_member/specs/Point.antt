@@ -6,6 +6,7 @@ use Rattle.types_core.specs.declared.proposal.Proposal.{Proposal}
 use Rattle.messages_certificates.specs.declared.artifact.Artifact.{Artifact}
 use Rattle.messages_certificates.specs.declared.certificate.Certificate.{Certificate}
 use Rattle.messages_certificates.specs.declared.nullify.Nullify.{Nullify}
+use Rattle.messages_certificates.specs.ProposalCertificate.{Finalization}
 use Rattle.simplex_messages.specs.declared.vote.Vote.{Vote}
 use Rattle.types_terms.specs.declared.kind.Kind.{Kind}
 use Rattle.batcher_verifier.specs.declared.batch.Batch.{Batch}
@@ -56,6 +57,8 @@ pub data Point (S D P G C : Type 0) : Type 0 where
   -- an own vote, made now; the recorded nullify once more, with the best certificate to enter its view by
   Votes : Vote S D P G C → Point S D P G C
   Repeats : Nullify S D P G C → Option (Certificate S D P G C) → Point S D P G C
+  -- the record was rewritten: it begins with this finalization now. No act of the node's own, since it is asked for it
+  Rewrote : Finalization S D P G C → Point S D P G C
 
 abbrev pub History : (S D P G C : Type 0) → Type 0
 History S D P G C = List (Point S D P G C)
@@ -72,6 +75,7 @@ is_act (Wanted member view) = false
 is_act (Built number handoff context payload took) = false
 is_act (Checked number view answer outcome) = false
 is_act (Judged r ok) = false
+is_act (Rewrote c) = false
 is_act p = true
 
 abbrev pub AreActs : {S D P G C : Type 0} → List (Point S D P G C) → Type 0

@@ -114,7 +114,7 @@ module _ {S D P G C : Type 0} (g : Ghosts S D P G C) (f : Formats S D P G C) (s 
   tests h (event.Built number payload) = (refusal.UnknownAnswer, build_at h number ≡ None) ∷ []
   tests h (event.Checked number answer) = (refusal.UnknownAnswer, check_at h number ≡ None) ∷ []
   tests h (event.Verdict view ok) =
-      (refusal.UnknownAnswer, (IsJudged h view → ⊥) × (IsAwaited s h view → ⊥)) ∷ (refusal.SecondVerdict, IsJudged h view) ∷ []
+      (refusal.UnknownAnswer, (IsJudged s h view → ⊥) × (IsAwaited s h view → ⊥)) ∷ (refusal.SecondVerdict, IsJudged s h view) ∷ []
   tests h (event.Moment now) = (refusal.MomentFell, now < latest h) ∷ (refusal.MomentTooLate, IsInTime s now → ⊥) ∷ []
 
   -- the evidence that a refused vote gives, where it contradicts one that is kept in full

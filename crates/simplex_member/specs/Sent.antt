@@ -5,10 +5,10 @@ use Rattle.simplex_messages.specs.declared.vote.Vote.{Vote}
 use Rattle.simplex_record.specs.World.{World, IsCorrect}
 use Rattle.simplex_member.specs.Deeds.{Sends}
 use Rattle.simplex_member.specs.Laws.{HasReached, IsCastDue}
-use Rattle.simplex_member.specs.Lives.{Course, Life, Broken, Lasting, Turn, Refuses, Went, HandedOut, LiveByNodes, Members}
+use Rattle.simplex_member.specs.Lives.{Course, Life, Broken, Lasting, Turn, Refuses, Rewrites, Went, HandedOut, LiveByNodes, Members}
 use Rattle.simplex_member.specs.Member.{NoneDue, after}
 use Rattle.simplex_member.specs.Packet.{Formats, of_vote}
-use Rattle.simplex_member.specs.Point.{Point, History}
+use Rattle.simplex_member.specs.Point.{Point, Rewrote, History}
 
 module _ {S D P G C : Type 0} where
   -- the histories at which turns answered
@@ -16,6 +16,7 @@ module _ {S D P G C : Type 0} where
   turns_answer h [] = []
   turns_answer h (Refuses e r ∷ turns) = h ∷ turns_answer h turns
   turns_answer h (Went e points ∷ turns) = after h points ∷ turns_answer (after h points) turns
+  turns_answer h (Rewrites c ∷ turns) = (Rewrote c ∷ h) ∷ turns_answer (Rewrote c ∷ h) turns
 
   -- the histories at which a life answered: that of its opening, and that of each reply; none where it was cut off
   abbrev pub answers_of : Course S D P G C → List (History S D P G C)

@@ -1,5 +1,5 @@
 -- What stays the same through an opening of a member's node.
-use Rattle.std.specs.Prelude.{◌≡◌, ◌<◌, ◌+◌, ◌^◌, ℕ, Bool, max, unwrap_or, Option, Some, None, IfSome}
+use Rattle.std.specs.Prelude.{◌≡◌, ◌<◌, ◌+◌, ◌^◌, ℕ, Bool, false, max, unwrap_or, Option, Some, None, IfSome}
 use Rattle.types_core.specs.declared.scheme.Scheme.{Ghosts}
 use Rattle.types_terms.specs.declared.elector.Elector as elector
 use Rattle.simplex_record.specs.declared.owner.Owner.{Owner}
@@ -16,14 +16,16 @@ pub record Setup (S D C : Type 0) : Type 0 where
   pub voter : views.Setup S C
   -- the member's own index
   pub me : ℕ
-  -- the payload that view 0 stands for
-  pub genesis : D
+  -- the payload that view 0 stands for, where the opening brings it, as it does unless it brings a finalized floor in its place
+  pub genesis : Option D
   -- for how long a leader may be silent, where views are given up for that
   pub silence : Option ℕ
   -- to whom the payload of the view before is forwarded when a view is entered
   pub forward : ForwardPolicy
   -- votes are kept in full for good
   pub tracks : Bool
+  -- its record may be rewritten
+  pub rewrites : Bool
 
 -- for how long a leader may be silent
 abbrev pub silence_of : SkipPolicy → Option ℕ
@@ -49,15 +51,15 @@ module _ {S D C : Type 0} where
   abbrev pub IsInTime : Setup S D C → ℕ → Type 0
   IsInTime s now = now + longest_timeout s < 2 ^ 64
 
--- Two setups of one member: its scheme, by which the members are known, its index, its epoch, the length of terms, the payload at the start
--- and whom the elector names are fixed for good. All else may differ from one of its nodes to the next
+-- Two setups of one member: its scheme, by which the members are known, its index, its epoch, the length of terms, the payload at the start,
+-- where both bring it, and whom the elector names are fixed for good. All else may differ from one of its nodes to the next
 pub record IsOfOneMember {S D C : Type 0} (s other : Setup S D C) : Type 0 where
   pub scheme : other.voter.scheme ≡ s.voter.scheme
   pub me : other.me ≡ s.me
   pub voter_me : other.voter.me ≡ s.voter.me
   pub epoch : other.voter.epoch ≡ s.voter.epoch
   pub length : other.voter.length ≡ s.voter.length
-  pub genesis : other.genesis ≡ s.genesis
+  pub genesis : (payload more : D) → s.genesis ≡ Some payload → other.genesis ≡ Some more → more ≡ payload
   pub mode : other.voter.mode ≡ s.voter.mode
   pub elect : (view : ℕ) (certificate : Option C) → other.voter.elect view certificate ≡ s.voter.elect view certificate
 
@@ -78,8 +80,9 @@ module _ {S L D P G C : Type 0} where
   setup_of g e config scheme l index = record {
     voter = built g e scheme l config;
     me = index;
-    genesis = config.floor;
+    genesis = Some config.floor;
     silence = silence_of config.skip;
     forward = config.forward;
     tracks = config.track_historical_votes;
+    rewrites = false;
   }

@@ -5,7 +5,8 @@ ghost use Rattle.types_codec.specs.Codec.{Readable};
 ghost use Rattle.messages_certificates.specs.declared.artifact.Artifact.{Artifact};
 ghost use Rattle.messages_certificates.specs.Artifact.{artifact_fits, artifact_spelling, artifact_within};
 ghost use Rattle.simplex_member.specs.Doing.{ActsEnd, ActsEndAnyhow, NothingIsDoneTwice};
-ghost use Rattle.simplex_member.specs.Laws.{AcceptedAreKnown, Agree, AgreeIfHonest, AreReadBack, AwaitedIsJudgeable, AwaitedMayBeRecorded, BlockedByRefusalAlone, CanBeSent, ConstructionsBlockNone, CorrectVotesAreSound, CorrectVotesContradictNone, DeedsAreDone, DeedsAreOfPoints, DueFinalizeMayBeRecorded, DueIsBound, DueMayBeRecorded, DueNullifyMayBeRecorded, EarlyIsInTime, EmptyIsOpened, FinalizeAlike, HandedCertificatesAreSound, IsExact, KnownNullifiesAreRecorded, LeftIsFound, LeftStandsOnGround, LieOnOneChain, LivesLeaveLawful, LivesLeaveReadable, MadeAreHonest, MadeAreSound, MadeIsAllowed, MadeListVotes, NeverContradicts, NeverForeign, NextStandsOnGround, NoQuorumIsLost, NoneIsBlamed, OneIsRead, OwnVotesAgree, PacketsAreInGrammar, ProposalsLieInTheirViews, ReachedAreGoneTo, RecordLaws, RecordsGrow, RecordsStandOnGround, RecordsStayLawful, ReportedCertify, ReportsAreHonest, RequestsAreTracked, RoundLaws, RunsAreStretches, StepsOfSeveralRaiseLittle, StepsRaiseLittle, ViewsNeverFall, VotersAreOrderly, VotersTellTheRecord, VotesAreLawful, VotesAreRecorded, VotesWereDue};
+ghost use Rattle.simplex_member.specs.Floors.{AllIsKept, KeptTellsAll, LivesLeaveAll, NoneIsDueBelow, ParentsLieFromFloor, RewritesAreSo};
+ghost use Rattle.simplex_member.specs.Laws.{AcceptedAreKnown, Agree, AgreeIfHonest, AreReadBack, AwaitedIsJudgeable, AwaitedMayBeRecorded, BlockedByRefusalAlone, BroughtFloorsAreSound, CanBeSent, ConstructionsBlockNone, CorrectVotesAreSound, CorrectVotesContradictNone, DeedsAreDone, DeedsAreOfPoints, DueFinalizeMayBeRecorded, DueIsBound, DueMayBeRecorded, DueNullifyMayBeRecorded, EarlyIsInTime, EmptyIsOpened, FinalizeAlike, HandedCertificatesAreSound, IsExact, KnownNullifiesAreRecorded, LeftIsFound, LeftStandsOnGround, LieOnOneChain, LifeLaws, ListLaws, LivesLeaveLawful, LivesLeaveReadable, MadeAreHonest, MadeAreSound, MadeIsAllowed, MadeListVotes, NeverContradicts, NeverForeign, NextStandsOnGround, NoQuorumIsLost, NoneIsBlamed, OneIsRead, OwnVotesAgree, PacketsAreInGrammar, ProposalsLieInTheirViews, ReachedAreGoneTo, RecordLaws, RecordsGrow, RecordsStandOnGround, RecordsStayLawful, ReportedCertify, ReportsAreHonest, RequestsAreTracked, RoundLaws, RunsAreStretches, StepsOfSeveralRaiseLittle, StepsRaiseLittle, ViewsNeverFall, VotersAreOrderly, VotersTellTheRecord, VotesAreLawful, VotesAreRecorded, VotesWereDue};
 ghost use Rattle.simplex_member.specs.Packet.{Formats, IsRecordable, formats};
 ghost use Rattle.simplex_member.specs.Setup.{Setup};
 
@@ -18,8 +19,9 @@ use batcher_verifier::{
 use journal_single::a_disk_reads_as_one_record;
 use messages_certificates::Artifact;
 use simplex_record::{
-    a_lawful_record_grows, agreement, chain, no_own_vote_stands_in_the_way,
-    records_stand_on_ground as ground, whole_records_vote_lawfully,
+    a_lawful_record_grows, a_rewritten_record_is_lawful, agreement, chain,
+    ever_lawful_members_vote_lawfully, no_own_vote_stands_in_the_way,
+    records_stand_on_ground as ground, three_lists_go_on, what_is_kept_is_lawful,
 };
 use simplex_resolver::what_is_produced_came;
 use types_core::{Digest, Listing, Scheme};
@@ -49,6 +51,25 @@ pub(crate) fn records_obey<S: Scheme<D>, D: Digest>()
     a_lawful_record_grows::<S, D>();
 }
 
+/// What they take from those of a member's lists.
+pub(crate) fn lists_obey<S: Scheme<D>, D: Digest>()
+    ensures { ListLaws S.Scheme }
+{
+    three_lists_go_on::<S, D>();
+    what_is_kept_is_lawful::<S, D>();
+    ever_lawful_members_vote_lawfully::<S, D>();
+}
+
+/// What the laws of lives take.
+pub(crate) fn lives_obey<S: Scheme<D>, D: Digest>()
+    ensures { LifeLaws S.Scheme }
+{
+    records_obey::<S, D>();
+    lists_obey::<S, D>();
+    what_is_known_is_recorded::<S, D>();
+    what_is_recorded_is_known::<S, D>();
+}
+
 /// Points that are allowed keep a record lawful.
 pub fn records_stay_lawful<S: Scheme<D>, D: Digest>()
     ensures { (f : Formats S D S.PublicKey S.Signature S.Certificate) (s : Setup S D S.Certificate) → RecordsStayLawful S.Scheme f s }
@@ -65,17 +86,17 @@ pub fn records_grow<S: Scheme<D>, D: Digest>()
 pub fn lives_leave_lawful<S: Scheme<D>, D: Digest>()
     ensures { (f : Formats S D S.PublicKey S.Signature S.Certificate) (s : Setup S D S.Certificate) → LivesLeaveLawful S.Scheme f s }
 {
-    records_obey::<S, D>();
+    lives_obey::<S, D>();
 }
 
 /// No opening of what a member's lives left finds that it contradicts.
 pub fn never_contradicts<S: Scheme<D>, D: Digest>()
     ensures { (f : Formats S D S.PublicKey S.Signature S.Certificate) (s : Setup S D S.Certificate) → NeverContradicts S.Scheme f s }
 {
-    records_obey::<S, D>();
+    lives_obey::<S, D>();
 }
 
-/// What a member's lives leave can be read again in its committee. So an opening of it is never answered that an entry is
+/// What a member ever recorded can be read again in its committee. So an opening of it is never answered that an entry is
 /// foreign, and finds just that: what the disk takes for an artifact is read under the bound of the largest committee.
 pub fn never_foreign<S: Scheme<D>, D: Digest>()
     ensures readable { (f : Formats S D S.PublicKey S.Signature S.Certificate) (s : Setup S D S.Certificate) → LivesLeaveReadable S.Scheme f s }
@@ -93,6 +114,46 @@ pub fn never_foreign<S: Scheme<D>, D: Digest>()
         (artifact_within (S.Certificate.within 65535))) }
 {
     a_disk_reads_as_one_record::<Artifact<S, D>>();
+}
+
+/// A rewrite begins what is kept with the finalization of its last finalized view, and drops what doesn't reach above that. It
+/// changes neither the current view nor the last finalized one, nothing else of what the voter knows of these, and hands
+/// nothing out.
+pub fn rewrites_are_so<S: Scheme<D>, D: Digest>()
+    ensures { (f : Formats S D S.PublicKey S.Signature S.Certificate) (s : Setup S D S.Certificate) → RewritesAreSo S.Scheme f s }
+{
+    a_rewritten_record_is_lawful::<S, D>();
+}
+
+/// What is kept through rewrites is of what was recorded, and all of it that reaches above the last finalized view; where nothing may
+/// be rewritten, it is all.
+pub fn what_is_kept_tells_all<S: Scheme<D>, D: Digest>()
+    ensures tells { (f : Formats S D S.PublicKey S.Signature S.Certificate) (s : Setup S D S.Certificate) → KeptTellsAll S.Scheme f s }
+    ensures whole { (f : Formats S D S.PublicKey S.Signature S.Certificate) (s : Setup S D S.Certificate) → AllIsKept S.Scheme f s }
+{
+    what_is_known_is_recorded::<S, D>();
+}
+
+/// No vote is due of a view at or below the one that the record begins behind, be it since the last rewrite.
+pub fn none_is_due_below_the_floor<S: Scheme<D>, D: Digest>()
+    ensures { (f : Formats S D S.PublicKey S.Signature S.Certificate) (s : Setup S D S.Certificate) → NoneIsDueBelow S.Scheme f s }
+{
+    what_is_known_is_recorded::<S, D>();
+}
+
+/// All that a member's lives ever recorded is lawful, through rewrites and floors that openings brought, and what they leave
+/// stands for all of it: of the same current view and the same last finalized one, and with all that reaches above the floor.
+pub fn lives_leave_all<S: Scheme<D>, D: Digest>()
+    ensures { (f : Formats S D S.PublicKey S.Signature S.Certificate) (s : Setup S D S.Certificate) → LivesLeaveAll S.Scheme f s }
+{
+    lives_obey::<S, D>();
+}
+
+/// Each vote to notarize names a parent at or above the view behind which all begins that its member ever recorded.
+pub fn parents_lie_from_the_floor<S: Scheme<D>, D: Digest>()
+    ensures { (f : Formats S D S.PublicKey S.Signature S.Certificate) (s : Setup S D S.Certificate) → ParentsLieFromFloor S.Scheme f s }
+{
+    lives_obey::<S, D>();
 }
 
 /// An empty record is opened at any moment that lies early enough.
@@ -294,17 +355,17 @@ pub fn what_is_made_may_be_recorded<S: Scheme<D>, D: Digest>()
 }
 
 /// The law of agreement for members that live by their nodes, over openings, events and crashes of any kind.
-/// It speaks of each certificate that one of them recorded, and of each that came in to one of them and
-/// certifies: those that are made are honest, as what came in is.
+/// It speaks of each certificate that one of them recorded, and of each that came in to one of them, or that an
+/// opening brought as its floor, and certifies: those that are made are honest, as what came in is.
 pub fn agreement_of_lives<S: Listing<D>, D: Digest>()
     ensures agree { (f : Formats S D S.PublicKey S.Signature S.Certificate) → AgreeIfHonest S.Scheme f }
     ensures handed { (f : Formats S D S.PublicKey S.Signature S.Certificate) → HandedCertificatesAreSound S.Scheme f }
+    ensures brought { (f : Formats S D S.PublicKey S.Signature S.Certificate) → BroughtFloorsAreSound S.Scheme f }
     ensures made { (f : Formats S D S.PublicKey S.Signature S.Certificate) → IsExact f → MadeAreHonest S.Scheme f }
     ensures all_agree { (f : Formats S D S.PublicKey S.Signature S.Certificate) → IsExact f → Agree S.Scheme f }
 {
-    records_obey::<S, D>();
+    lives_obey::<S, D>();
     rounds_obey::<S, D>();
-    whole_records_vote_lawfully::<S, D>();
     agreement::<S, D>();
 }
 
@@ -313,9 +374,8 @@ pub fn agreement_of_lives<S: Listing<D>, D: Digest>()
 pub fn finalized_views_lie_on_one_chain<S: Listing<D>, D: Digest>()
     ensures { (f : Formats S D S.PublicKey S.Signature S.Certificate) → IsExact f → LieOnOneChain S.Scheme f }
 {
-    records_obey::<S, D>();
+    lives_obey::<S, D>();
     rounds_obey::<S, D>();
-    whole_records_vote_lawfully::<S, D>();
     chain::<S, D>();
     lives_stand_on_ground::<S, D>();
 }
@@ -349,7 +409,7 @@ pub fn made_certificates_are_sound<S: Listing<D>, D: Digest>()
 pub fn reports_are_honest<S: Scheme<D>, D: Digest>()
     ensures { (f : Formats S D S.PublicKey S.Signature S.Certificate) → IsExact f → ReportsAreHonest S.Scheme f }
 {
-    records_obey::<S, D>();
+    lives_obey::<S, D>();
     rounds_obey::<S, D>();
 }
 
@@ -358,14 +418,14 @@ pub fn reports_are_honest<S: Scheme<D>, D: Digest>()
 pub fn reported_certificates_certify<S: Listing<D>, D: Digest>()
     ensures { (f : Formats S D S.PublicKey S.Signature S.Certificate) → ReportedCertify S.Scheme f }
 {
-    records_obey::<S, D>();
+    lives_obey::<S, D>();
 }
 
 /// A correct member recorded votes for no two statements of which one stands in the other's way.
 pub fn own_votes_agree<S: Scheme<D>, D: Digest>()
     ensures { (f : Formats S D S.PublicKey S.Signature S.Certificate) → OwnVotesAgree S.Scheme f }
 {
-    records_obey::<S, D>();
+    lives_obey::<S, D>();
     no_own_vote_stands_in_the_way::<D>();
 }
 
@@ -377,7 +437,7 @@ pub fn correct_votes_are_sound<S: Scheme<D>, D: Digest>()
     ensures no_contradiction { (f : Formats S D S.PublicKey S.Signature S.Certificate) → AreReadBack f → CorrectVotesContradictNone S.Scheme f }
     ensures none_invalid { (f : Formats S D S.PublicKey S.Signature S.Certificate) → IsExact f → AreReadBack f → ConstructionsBlockNone S.Scheme f }
 {
-    records_obey::<S, D>();
+    lives_obey::<S, D>();
     rounds_obey::<S, D>();
 }
 
@@ -386,7 +446,7 @@ pub fn correct_votes_are_sound<S: Scheme<D>, D: Digest>()
 pub fn blocked_by_refusal_alone<S: Scheme<D>, D: Digest>()
     ensures { (f : Formats S D S.PublicKey S.Signature S.Certificate) → IsExact f → AreReadBack f → BlockedByRefusalAlone S.Scheme f }
 {
-    records_obey::<S, D>();
+    lives_obey::<S, D>();
     rounds_obey::<S, D>();
 }
 
@@ -395,7 +455,7 @@ pub fn blocked_by_refusal_alone<S: Scheme<D>, D: Digest>()
 pub fn none_is_blamed<S: Listing<D>, D: Digest>()
     ensures { (f : Formats S D S.PublicKey S.Signature S.Certificate) → IsExact f → AreReadBack f → NoneIsBlamed S.Scheme f }
 {
-    records_obey::<S, D>();
+    lives_obey::<S, D>();
     rounds_obey::<S, D>();
     what_is_known_is_recorded::<S, D>();
     what_is_produced_came();
@@ -406,7 +466,7 @@ pub fn none_is_blamed<S: Listing<D>, D: Digest>()
 pub fn packets_are_in_grammar<S: Scheme<D>, D: Digest>()
     ensures { (f : Formats S D S.PublicKey S.Signature S.Certificate) → AreReadBack f → PacketsAreInGrammar S.Scheme f }
 {
-    records_obey::<S, D>();
+    lives_obey::<S, D>();
     what_is_known_is_recorded::<S, D>();
     what_is_produced_came();
 }

@@ -27,7 +27,10 @@ module _ {S D P G C : Type 0} (g : Ghosts S D P G C) (f : Formats S D P G C)
 
   pub all-sound : MadeAreSound g f → AllAreSound g f
   all-sound made scheme m world w c there = ⊎_elim
-      (λ came. honest-sound scheme m world w came.member came.correct c (w.honest came.member came.sender came.correct (of_certificate c) came.came) came.verifies)
+      (λ came. honest-sound scheme m world w came.member came.correct c (⊎_elim
+      (λ by. w.honest came.member by.0 came.correct (of_certificate c) by.1)
+      (λ floor. w.floors came.member came.correct c floor)
+      came.handed) came.verifies)
       (λ others. ⊎_elim
       (λ by. made scheme m world w by.member by.correct by.life by.h by.reached by.view by.kind by.batch by.allowed c by.made)
       (λ else_. honest-sound scheme m world w else_.member else_.correct c else_.honest else_.verifies)

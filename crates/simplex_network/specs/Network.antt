@@ -1,7 +1,8 @@
 -- A network: a committee of which some may do anything, and what each of the others was handed, did, and recorded. What is asked of one
--- is said where it is needed: that the others live by their nodes (`LiveByNodes`), of which what comes in has to meet one thing alone, that
--- no verifying vote in the name of one of them is on what that member recorded no vote for; that no more are excused than may be faulty
--- (`AtMostFLie`); and that they have one elector (`HaveOneElector`).
+-- is said where it is needed: that the others live by their nodes (`LiveByNodes`), each on one disk or two that were empty at first, of
+-- which what comes in, and the floor that an opening brings, has to meet one thing alone, that no verifying vote in the name of one of
+-- them is on what that member recorded no vote for; that no more are excused than may be faulty (`AtMostFLie`); and that they have one
+-- elector (`HaveOneElector`).
 use Rattle.std.specs.Prelude.{◌≡◌, ◌⊎◌, ℕ, Option, Some}
 use Rattle.types_core.specs.declared.scheme.Scheme.{Ghosts}
 use Rattle.messages_certificates.specs.declared.certificate.Certificate.{Certificate}
@@ -12,7 +13,7 @@ use Rattle.types_terms.specs.declared.kind.Kind.{Kind}
 use Rattle.batcher_verifier.specs.declared.batch.Batch.{Batch}
 use Rattle.simplex_member.specs.Allowed.{Allowed}
 use Rattle.simplex_member.specs.Laws.{HasReached}
-use Rattle.simplex_member.specs.Lives.{CameIn, Life, Members}
+use Rattle.simplex_member.specs.Lives.{CameIn, Life, Members, WasBrought}
 use Rattle.simplex_member.specs.Packet.{Formats, of_certificate}
 use Rattle.simplex_member.specs.Point.{Constructs, History}
 
@@ -27,12 +28,15 @@ module _ {S D P G C : Type 0} (g : Ghosts S D P G C) (f : Formats S D P G C) (sc
   abbrev pub Verifies : ℕ → Certificate S D P G C → Type 0
   Verifies member c = g.certifies (m.setup member).voter.scheme (certificate_statement c) (certified_by c)
 
-  -- a certificate stood in bytes that one of these members was handed, and verifies by its scheme
+  -- a certificate stood in bytes that a member was handed, by whatever sender; or an opening of it brought it as its floor
+  abbrev pub IsHandedTo : ℕ → Certificate S D P G C → Type 0
+  IsHandedTo member c = ((sender : ℕ) × CameIn g f scheme m world member sender (of_certificate c)) ⊎ WasBrought g f scheme m world member c
+
+  -- so it was to one of these members, and verifies by its scheme
   pub record WasHandedIn (c : Certificate S D P G C) : Type 0 where
     pub member : ℕ
     pub correct : IsCorrect world member
-    pub sender : ℕ
-    pub came : CameIn g f scheme m world member sender (of_certificate c)
+    pub handed : IsHandedTo member c
     pub verifies : Verifies member c
 
   -- one of these members made it, whether or not it came to record it

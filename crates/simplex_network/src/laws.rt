@@ -20,7 +20,8 @@ use types_core::{Digest, Listing, Read, Write};
 
 /// The law of agreement. In a committee of any size, with terms of any length, let no more members be excused from
 /// all rules than may be faulty. Let each other member run one node after another, each with settings of its own,
-/// through any number of openings, events, losses and crashes inside any write, on a disk that was empty at first;
+/// through any number of openings, events, losses, rewrites and crashes inside any write, on one disk or two that
+/// were empty at first, and let an opening bring a floor that certifies, which counts as bytes handed in;
 /// let all of them have schemes of the committee's size, each its own, by which nothing attests that does not by the
 /// committee's; and let no verifying vote that they are handed in a member's name be on what that member recorded no
 /// vote for. Then over all

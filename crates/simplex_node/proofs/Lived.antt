@@ -3,6 +3,7 @@ use Rattle.std.proofs.Common.{◌≡◌, ◌⊎◌, inl, inr, ℕ, List, [], ◌
 use Rattle.std.specs.Prelude.{All, IfSome, MatchOption, option_map, option_to_list}
 use Rattle.std.proofs.lemmas.List.{append-nil}
 use Rattle.std.proofs.lemmas.Option.{same_Some}
+use Rattle.types_quorum.specs.Counting.{Contains-nil}
 use Rattle.types_core.specs.declared.scheme.Scheme.{Ghosts}
 use Rattle.messages_certificates.specs.declared.artifact.Artifact.{Artifact}
 use Rattle.types_terms.specs.declared.elector.Elector as elector
@@ -21,12 +22,14 @@ use Rattle.simplex_member.specs.declared.fault.OpenFault.TheVariants as open_fau
 use Rattle.simplex_member.specs.declared.refusal.Refusal.{Refusal}
 use Rattle.simplex_member.specs.Deeds.{AreActions}
 use Rattle.simplex_member.specs.First.{IsFirst}
-use Rattle.simplex_member.specs.Lives.{Broken, Course, Lasting, Life, Lived, Lives, Refuses, Turn, Turns, Went, turn_events}
+use Rattle.simplex_member.specs.Allowed.{AreAllowed}
+use Rattle.simplex_member.specs.Floors.{AllIsKept}
+use Rattle.simplex_member.specs.Lives.{Appends, Broken, Course, Founds, IsCut, Lasting, Life, Lived, Lives, Refuses, Rewrites, Turn, Turns, Went, turn_events}
 use Rattle.simplex_member.specs.Member as whole
 use Rattle.simplex_member.specs.Member.{Goes, AreActionsOf, IsReached, Run, Steps, Takes, after}
 use Rattle.simplex_member.specs.Packet.{Formats}
-use Rattle.simplex_member.specs.Point.{Point, History}
-use Rattle.simplex_member.specs.Recorded.{record_of}
+use Rattle.simplex_member.specs.Point.{Point, Rewrote, History}
+use Rattle.simplex_member.specs.Recorded.{fresh_of, kept_of, record_of}
 use Rattle.simplex_member.specs.Refusals.{refused_deeds, tests}
 use Rattle.simplex_member.specs.Setup.{IsOfOneMember, Setup, owner_of}
 use Rattle.simplex_record.specs.declared.owner.Owner.{Owner}
@@ -43,10 +46,45 @@ some-none x e = cc e
 
 module _ {S D P G C : Type 0} (g : Ghosts S D P G C) (f : Formats S D P G C) where
   -- one life behind others
-  pub lives-on : (s : Setup S D C) (found : List (Artifact S D P G C)) (lives : List (Life S D P G C)) (left : List (Artifact S D P G C)) (life : Life S D P G C) (end : History S D P G C)
-      → Lives g f s found lives left → Lived g f life.setup left life.course end → IsOfOneMember s life.setup → Lives g f s found (lives ++ life ∷ []) (record_of end)
-  lives-on s found [] left life end is lived one = (end, subst (λ (xs : List (Artifact S D P G C)). Lived g f life.setup xs life.course end) is lived, refl, one)
-  lives-on s found (first ∷ lives) left life end (mid, lived_first, more, same) lived one = (mid, lived_first, lives-on s (record_of mid) lives left life end more lived one, same)
+  pub lives-on : (s : Setup S D C) (ever found : List (Artifact S D P G C)) (lives : List (Life S D P G C)) (all left : List (Artifact S D P G C)) (life : Life S D P G C) (end : History S D P G C)
+      → Lives g f s ever found lives all left → Founds g f left life → Lived g f life.setup (left ++ life.founded) life.course end → IsOfOneMember s life.setup
+      → Lives g f s ever found (lives ++ life ∷ []) (all ++ (life.founded ++ fresh_of end)) (kept_of life.setup.voter.length end)
+  lives-on s ever found [] all left life end is founds lived one = (
+    end,
+    subst (λ (xs : List (Artifact S D P G C)). Founds g f xs life) is.1 founds,
+    subst (λ (xs : List (Artifact S D P G C)). Lived g f life.setup (xs ++ life.founded) life.course end) is.1 lived,
+    (ap (λ (xs : List (Artifact S D P G C)). xs ++ (life.founded ++ fresh_of end)) is.0, refl),
+    one,
+  )
+  lives-on s ever found (first ∷ lives) all left life end (mid, founds_first, lived_first, more, same) founds lived one =
+      (mid, founds_first, lived_first, lives-on s (ever ++ (first.founded ++ fresh_of mid)) (kept_of first.setup.voter.length mid) lives all left life end more founds lived one, same)
+
+  -- no floor is brought, so none is recorded
+  pub none-founded : (course : Course S D P G C) (found : List (Artifact S D P G C)) → Appends g f course None found []
+  none-founded (Broken now points) found = inl refl
+  none-founded (Lasting now points turns cut) found = refl
+
+  -- ---- where a life leads each point was allowed
+
+  module _ (s : Setup S D C) where
+    goes-allowed : (points : List (Point S D P G C)) (h end : History S D P G C) → AreAllowed g f s h → Goes g f s h points end → AreAllowed g f s end
+    goes-allowed [] h end all is = subst (λ (k : History S D P G C). AreAllowed g f s k) (sym is) all
+    goes-allowed (p ∷ points) h end all goes = goes-allowed points (p ∷ h) end (goes.0, all) goes.1
+
+    turns-allowed : (turns : List (Turn S D P G C)) (h end : History S D P G C) → AreAllowed g f s h → Turns g f s h turns end → AreAllowed g f s end
+    turns-allowed [] h end all is = subst (λ (k : History S D P G C). AreAllowed g f s k) (sym is) all
+    turns-allowed (Refuses e r ∷ turns) h end all turned = turns-allowed turns h end all turned.1
+    turns-allowed (Went e points ∷ turns) h end all turned = turns-allowed turns turned.0 end (goes-allowed points h turned.0 all turned.2.goes) turned.3
+    turns-allowed (Rewrites c ∷ turns) h end all turned = turns-allowed turns (Rewrote c ∷ h) end (turned.0.allowed, all) turned.1
+
+    cut-allowed : (cut : Option (Event D × List (Point S D P G C))) (h end : History S D P G C) → AreAllowed g f s h → IsCut g f s h cut end → AreAllowed g f s end
+    cut-allowed None h end all is = subst (λ (k : History S D P G C). AreAllowed g f s k) (sym is) all
+    cut-allowed (Some c) h end all is = goes-allowed c.1 h end all is.1
+
+    pub lived-allowed : (found : List (Artifact S D P G C)) (course : Course S D P G C) (end : History S D P G C) → Lived g f s found course end → AreAllowed g f s end
+    lived-allowed found (Broken now points) end lived = goes-allowed points [] end tt lived.1
+    lived-allowed found (Lasting now points turns cut) end lived =
+        cut-allowed cut lived.1 end (turns-allowed turns lived.0 lived.1 (goes-allowed points [] lived.0 tt lived.3.goes) lived.4) lived.5
 
   module _ (s : Setup S D C) where
     -- where points lead
@@ -248,6 +286,7 @@ module _ {S L D P G C : Type 0} (g : Ghosts S D P G C) (e : elector.Ghosts L S D
       → (image : List ℕ) → Left tries image → Left (tries ++ trial o answer ∷ []) image
   left-none tries o answer begins image is = record {
     lives = is.lives;
+    all = is.all;
     left = is.left;
     are = lives-none g e f s.me tries o answer is.lives begins is.are;
     lived = is.lived;
@@ -259,6 +298,7 @@ module _ {S L D P G C : Type 0} (g : Ghosts S D P G C) (e : elector.Ghosts L S D
       → (image : List ℕ) → Left (before ++ (tried openings answers ++ more)) image → Left (before ++ (tried openings [] ++ more)) image
   left-untold before openings answers more image is = record {
     lives = is.lives;
+    all = is.all;
     left = is.left;
     are = lives-behind g e f s.me before (tried openings answers ++ more) (tried openings [] ++ more) (lives-untold g e f s.me openings answers more) is.lives is.are;
     lived = is.lived;
@@ -270,22 +310,30 @@ module _ {S L D P G C : Type 0} (g : Ghosts S D P G C) (e : elector.Ghosts L S D
     abbrev t : Setup S D C
     t = setup_by g e s.me o
 
-    -- one life more
+    -- its life
+    abbrev pub life_by : Course S D P G C → Life S D P G C
+    life_by course = record { setup = t; brought = None; founded = []; course = course }
+
+    -- one life more, which rewrites nothing
     pub left-more : (answer : Option (Answered S D P G C)) (seen image : List ℕ) (is : Left before seen) (course : Course S D P G C) (end : History S D P G C)
-        → IsLifeOf g e f s.me o (record { setup = t; course = course }) → Gives g e f s.me o answer (record { setup = t; course = course })
+        → AllIsKept g f t → IsLifeOf g e f s.me o (life_by course) → Gives g e f s.me o answer (life_by course)
         → Lived g f t is.left course end → Reads image (map f.artifact (record_of end)) → Left (before ++ trial o answer ∷ []) image
-    left-more answer seen image is course end life gives lived reads = record {
-      lives = is.lives ++ (record { setup = t; course = course }) ∷ [];
-      left = record_of end;
-      are = lives-more g e f s.me before o answer is.lives (record { setup = t; course = course }) life gives is.are;
-      lived = lives-on g f s [] is.lives is.left (record { setup = t; course = course }) end is.lived lived one;
-      reads = reads;
+    left-more answer seen image is course end whole life gives lived reads = record {
+      lives = is.lives ++ life_by course ∷ [];
+      all = is.all ++ ([] ++ fresh_of end);
+      left = kept_of t.voter.length end;
+      are = lives-more g e f s.me before o answer is.lives (life_by course) life gives is.are;
+      lived = lives-on g f s [] [] is.lives is.all is.left (life_by course) end is.lived
+          (record { appends = none-founded g f course is.left; readable = λ y here. absurd (Contains-nil y here) })
+          (subst (λ (xs : List (Artifact S D P G C)). Lived g f t xs course end) (sym (append-nil is.left)) lived) one;
+      reads = subst (λ (xs : List (Artifact S D P G C)). Reads image (map f.artifact xs)) (sym (whole end (lived-allowed g f t is.left course end lived) refl)) reads;
     }
 
     module _ {K : Type 0} (k : disk.Ghosts K) (Readable : Artifact S D P G C → Type 0) (on : K) (keeps : k.keeps)
         (one_record : (image : List ℕ) (bodies others : List (List ℕ)) → Reads image bodies → Reads image others → bodies ≡ others)
-        (found_is : (lives : List (Life S D P G C)) (left found : List (Artifact S D P G C)) (image : List ℕ) → Lives g f s [] lives left → Reads image (map f.artifact left)
+        (found_is : (lives : List (Life S D P G C)) (all left found : List (Artifact S D P G C)) (image : List ℕ) → Lives g f s [] [] lives all left → Reads image (map f.artifact left)
         → All Readable found → Reads image (map f.artifact found) → found ≡ left)
+        (whole : AllIsKept g f t)
         (start : MayLeaveOnly (k.calls on) (Left before)) (seen : MayLeave (k.calls on) (k.seen on)) where
       -- what was left at the start
       pub at-start : Left before (k.seen on)
@@ -293,34 +341,35 @@ module _ {S L D P G C : Type 0} (g : Ghosts S D P G C) (e : elector.Ghosts L S D
 
       -- what is found is what was left
       pub found-left : (found : List (Artifact S D P G C)) → AreFoundOn k f.artifact Readable (One on) found → found ≡ at-start.left
-      found-left found are = found_is at-start.lives at-start.left found (k.seen on) at-start.lived at-start.reads are.readable (are.reads keeps)
+      found-left found are = found_is at-start.lives at-start.all at-start.left found (k.seen on) at-start.lived at-start.reads are.readable (are.reads keeps)
 
       -- what a crash inside the opening leaves, and one that failed
       pub left-open : (answer : Option (Answered S D P G C)) → BeginsNone g e f s.me o answer
-          → ((points : List (Point S D P G C)) → Gives g e f s.me o answer (record { setup = t; course = Broken o.now points }))
+          → ((points : List (Point S D P G C)) → Gives g e f s.me o answer (life_by (Broken o.now points)))
           → (image : List ℕ) → OnImage (MayBeLeftOpen g e k f t Readable (One on) o.now) image → Left (before ++ trial o answer ∷ []) image
       left-open answer begins gives image (read, reads, inl (before-image, left_before, reads_before)) =
           let was = start before-image left_before in
           left-none before o answer begins image (record {
             lives = was.lives;
+            all = was.all;
             left = was.left;
             are = was.are;
             lived = was.lived;
             reads = subst (λ (bodies : List (List ℕ)). Reads image bodies) (one_record before-image read (map f.artifact was.left) reads_before was.reads) reads;
           })
-      left-open answer begins gives image (read, reads, inr (found, are, opened)) = left-more answer (k.seen on) image at-start (Broken o.now opened.0) opened.1
-          (record { setup = refl; now = refl; left = o.events.items; events = refl }) (gives opened.0)
+      left-open answer begins gives image (read, reads, inr (found, are, opened)) = left-more answer (k.seen on) image at-start (Broken o.now opened.0) opened.1 whole
+          (record { setup = refl; brought = refl; now = refl; left = o.events.items; events = refl }) (gives opened.0)
           (subst (λ (xs : List (Artifact S D P G C)). Lived g f t xs (Broken o.now opened.0) opened.1) (found-left found are) (opened.2, opened.3))
           (subst (λ (bodies : List (List ℕ)). Reads image bodies) opened.4 reads)
 
       -- what turns behind the opening leave
       pub left-turned : (answer : Option (Answered S D P G C)) (found : List (Artifact S D P G C)) (first : List (Action S D P G C)) (mid : History S D P G C) (replies : List (Reply S D P G C)) (fault : Option NodeFault)
           → AreFoundOn k f.artifact Readable (One on) found → (opens : whole.Opens g f t o.now found first mid) → (image : List ℕ) → (is : IsLeftByTurns g f t mid o.events.items replies fault image)
-          → Gives g e f s.me o answer (record { setup = t; course = Lasting o.now opens.points is.turns is.cut })
+          → Gives g e f s.me o answer (life_by (Lasting o.now opens.points is.turns is.cut))
           → Left (before ++ trial o answer ∷ []) image
       left-turned answer found first mid replies fault are opens image is gives =
-          left-more answer (k.seen on) image at-start (Lasting o.now opens.points is.turns is.cut) is.end
-          (record { setup = refl; now = refl; left = is.left; events = is.split }) gives
+          left-more answer (k.seen on) image at-start (Lasting o.now opens.points is.turns is.cut) is.end whole
+          (record { setup = refl; brought = refl; now = refl; left = is.left; events = is.split }) gives
           (subst (λ (xs : List (Artifact S D P G C)). Lived g f t xs (Lasting o.now opens.points is.turns is.cut) is.end) (found-left found are)
           (mid, is.last, opens.opening, opens.rests, is.turned, is.is_cut))
           is.reads
@@ -337,16 +386,16 @@ module _ {S L D P G C : Type 0} (g : Ghosts S D P G C) (e : elector.Ghosts L S D
           )
 
       -- an opening that failed did so for its arguments, or for want of memory or by the disk
-      module _ (never : (lives : List (Life S D P G C)) (left : List (Artifact S D P G C)) (image : List ℕ) (place : ℕ) → Lives g f s [] lives left → Reads image (map f.artifact left)
+      module _ (never : (lives : List (Life S D P G C)) (all left : List (Artifact S D P G C)) (image : List ℕ) (place : ℕ) → Lives g f s [] [] lives all left → Reads image (map f.artifact left)
           → IsForeign [] Readable f.artifact image place → ⊥)
-          (lawful : (lives : List (Life S D P G C)) (left : List (Artifact S D P G C)) (position : ℕ) → Lives g f s [] lives left
+          (lawful : (lives : List (Life S D P G C)) (all left : List (Artifact S D P G C)) (position : ℕ) → Lives g f s [] [] lives all left
           → IsRefusedAt (g.attests s.voter.scheme) (g.certifies s.voter.scheme) (owner_of s) left position → ⊥) where
         owner-same : owner_of t ≡ owner_of s
         owner-same = ap (λ (n : ℕ). owner_by n t.voter.length t.me) one.epoch ∙ ap (λ (n : ℕ). owner_by s.voter.epoch n t.me) one.length ∙ ap (λ (n : ℕ). owner_by s.voter.epoch s.voter.length n) one.me
 
         no-contradiction : (position : ℕ) → IsContradiction k f.artifact Readable (g.attests o.scheme.value) (g.certifies o.scheme.value) (owner_of t) (One on) position → ⊥
         no-contradiction position (found, are, refused) =
-            lawful at-start.lives at-start.left position at-start.lived
+            lawful at-start.lives at-start.all at-start.left position at-start.lived
             (subst (λ (xs : List (Artifact S D P G C)). IsRefusedAt (g.attests s.voter.scheme) (g.certifies s.voter.scheme) (owner_of s) xs position) (found-left found are)
             (subst (λ (x : S). IsRefusedAt (g.attests x) (g.certifies x) (owner_of s) found position) one.scheme
             (subst (λ (w : Owner). IsRefusedAt (g.attests o.scheme.value) (g.certifies o.scheme.value) w found position) owner-same refused)))
@@ -361,7 +410,7 @@ module _ {S L D P G C : Type 0} (g : Ghosts S D P G C) (e : elector.Ghosts L S D
         fails X open_fault.MomentTooLate told later foreign contradiction = (told.0, λ none. absurd (some-none open_fault.MomentTooLate none))
         fails X open_fault.TooManyOptimistic told later foreign contradiction = (told.0, λ none. absurd (some-none open_fault.TooManyOptimistic none))
         fails X (open_fault.Foreign place) told later foreign contradiction =
-            absurd (never at-start.lives at-start.left (k.seen on) place at-start.lived at-start.reads (foreign place refl keeps))
+            absurd (never at-start.lives at-start.all at-start.left (k.seen on) place at-start.lived at-start.reads (foreign place refl keeps))
         fails X (open_fault.Contradiction position) told later foreign contradiction = absurd (no-contradiction position (contradiction position refl))
         fails X open_fault.Device told later foreign contradiction = (later refl, λ none. inr refl)
         fails X open_fault.Memory told later foreign contradiction = (later refl, λ none. inl refl)

@@ -110,9 +110,10 @@ module _ {S L D P G C : Type 0} (g : Ghosts S D P G C) (e : elector.Ghosts L S D
   AreOfOneMember s openings = All (λ o. IsOfOneMember s (setup_by s.me o)) openings
 
   module _ (f : Formats S D P G C) (index : ℕ) where
-    -- a life behind an opening: set up by it, at its moment, and handed a front of its events
+    -- a life behind an opening: set up by it, at its moment, with no floor, and handed a front of its events
     pub record IsLifeOf (o : Opening S L D) (life : Life S D P G C) : Type 0 where
       pub setup : life.setup ≡ setup_by index o
+      pub brought : life.brought ≡ None
       pub now : opened_at life.course ≡ o.now
       pub left : List (Event D)
       pub events : o.events.items ≡ events_of life.course ++ left
@@ -146,9 +147,10 @@ module _ {S L D P G C : Type 0} (g : Ghosts S D P G C) (e : elector.Ghosts L S D
   -- an image reads as what lives behind these openings have left of an empty record
   pub record IsLeftByLives (f : Formats S D P G C) (s : Setup S D C) (tries : List (Try S L D P G C)) (image : List ℕ) : Type 0 where
     pub lives : List (Life S D P G C)
+    pub all : List (Artifact S D P G C)
     pub left : List (Artifact S D P G C)
     pub are : AreLivesOf f s.me tries lives
-    pub lived : Lives g f s [] lives left
+    pub lived : Lives g f s [] [] lives all left
     pub reads : Reads image (map f.artifact left)
 
   -- what holds of each member of which these are openings, and whatever was tried before on a disk that its lives have left: by what

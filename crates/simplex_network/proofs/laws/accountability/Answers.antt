@@ -28,7 +28,7 @@ returns g c = record {
       g.D.Write.fits g.S.Signature.Write.fits g.S.Certificate.Write.fits (g.S.Certificate.Read.within n)
       (bounded-IsCodec (g.met.D.Read.one_spelling n small) (g.met.D.Digest.unbounded n)) (bounded-IsCodec (g.met.S.Signature.Read.one_spelling n small) (g.met.S.Signature.Signature.unbounded n)) (g.met.S.Certificate.Read.one_spelling n small)
       _ (report-read g.S.Scheme f scheme m world w (c.packets_are_read_back.ensures.read_back n small)
-      (λ i correct x here. (c.packets_are_read_back.ensures.read_back n small).recorded x (c.never_foreign.ensures.readable f (m.setup i) (m.lives i) (world.recorded i) (w.lived i correct) x here))
+      (λ i correct x here. (c.packets_are_read_back.ensures.read_back n small).recorded x (c.never_foreign.ensures.readable f (m.setup i) (m.lives i) (world.recorded i) (w.lived i correct).0 (w.lived i correct).1 x here))
       (c.deeds_are_done.ensures f) (c.histories_of_lives_are_gone_to.ensures f)
       (c.deeds_are_of_their_points.ensures f) (c.accepted_votes_are_known.ensures f) by.0 by.1 _ by.2))
       audit.read in
@@ -42,7 +42,7 @@ returns g c = record {
       g.D.Write.fits g.S.Signature.Write.fits g.S.Certificate.Write.fits (g.S.Certificate.Read.within n)
       (bounded-IsCodec (g.met.D.Read.one_spelling n small) (g.met.D.Digest.unbounded n)) (bounded-IsCodec (g.met.S.Signature.Read.one_spelling n small) (g.met.S.Signature.Signature.unbounded n)) (g.met.S.Certificate.Read.one_spelling n small)
       a (report-read g.S.Scheme f scheme m world w back
-      (λ j at x here. back.recorded x (c.never_foreign.ensures.readable f (m.setup j) (m.lives j) (world.recorded j) (w.lived j at) x here))
+      (λ j at x here. back.recorded x (c.never_foreign.ensures.readable f (m.setup j) (m.lives j) (world.recorded j) (w.lived j at).0 (w.lived j at).1 x here))
       (c.deeds_are_done.ensures f) (c.histories_of_lives_are_gone_to.ensures f)
       (c.deeds_are_of_their_points.ensures f) (c.accepted_votes_are_known.ensures f) i correct a (subst (λ (x : Deed _ _ _ _ _). HandedOut g.S.Scheme f scheme m world i x) is out)));
   enough_named = λ f exact scheme m world w some reports evidence told verdict round contradicted.
