@@ -2,26 +2,33 @@
 use Rattle.std.proofs.Common.{◌≡◌, ⊎_elim, ◌⊎◌, inl, inr, ℕ, ◌≤◌, ◌<◌, ◌==◌, Bool, true, false, List, [], ◌∷◌, ◌++◌, Option, Some, None, refl, sym, ◌∙◌, ap, subst, arith}
 use Rattle.std.specs.Prelude.{Contains, if◌then◌else◌, max, nat_lt}
 use Rattle.std.specs.List.{filter}
-use Rattle.std.proofs.lemmas.Bool.{both_ways, eqb-true, lt-ltb}
+use Rattle.std.proofs.lemmas.Bool.{both_ways, eqb-true, lt-ltb, ltb-true}
 use Rattle.std.proofs.lemmas.Option.{none-some}
 use Rattle.types_quorum.specs.Counting.{Contains-cases, Contains-head, Contains-nil, Contains-rest}
+use Rattle.types_core.specs.declared.position.Round.{Round}
 use Rattle.types_core.specs.declared.scheme.Scheme.{Ghosts}
+use Rattle.types_core.specs.Subject.{finalize}
 use Rattle.messages_certificates.specs.declared.artifact.Artifact.{Artifact}
 use Rattle.messages_certificates.specs.declared.artifact.Artifact.TheVariants as artifact
 use Rattle.messages_certificates.specs.ProposalCertificate.{Finalization}
-use Rattle.simplex_record.specs.Record.{Entry, current_view, entries, entry, finalizes, floor, last_finalized}
+use Rattle.simplex_record.specs.Record as recorded
+use Rattle.simplex_record.specs.Record.{Entry, HasJudged, current_view, entries, entry, finalizes, floor, last_finalized}
 use Rattle.simplex_record.specs.Rules.{reach}
 use Rattle.simplex_record.specs.Lawful.{rewritten}
 use Rattle.voter_history.specs.History as views
 use Rattle.voter_laws.specs.Matching.{EachHistoryMatches}
 use Rattle.simplex_member.specs.Allowed.{Allowed, AreAllowed, MayRewrite}
+use Rattle.simplex_member.specs.declared.event.Event.TheVariants as event
+use Rattle.simplex_member.specs.declared.refusal.Refusal.TheVariants as refusal
+use Rattle.simplex_member.specs.First.{IsFirst}
 use Rattle.simplex_member.specs.Floors.{IsRewriteOf, TellsAll}
 use Rattle.simplex_member.specs.Layers.{finalized_of, latest, voter_of, voter_points}
 use Rattle.simplex_member.specs.Packet.{Formats}
 use Rattle.simplex_member.specs.Point.{Point, Rewrote, History}
 use Rattle.simplex_member.specs.Recorded.{finalization_in, keeps, kept_of, next_floor, put_behind, record_of, recorded_by}
+use Rattle.simplex_member.specs.Refusals.{tests}
 use Rattle.simplex_member.specs.Setup.{Setup}
-use Rattle.simplex_member.proofs.Lists.{put-before, put-cases, put-here, some-is}
+use Rattle.simplex_member.proofs.Lists.{Contains-mapped, put-before, put-cases, put-here, some-is}
 use Rattle.simplex_member.proofs.Recordable.{matches}
 use Rattle.simplex_member.proofs.Rising.{all-rise}
 use Rattle.simplex_member.proofs.Telling.{apart}
@@ -54,6 +61,14 @@ filter-stood {X} test (y ∷ xs) x here = go (test y) here (λ later. filter-sto
         (λ later. Contains-rest y xs x (stood later))
         (Contains-cases y (filter test xs) x there)
     go false there stood = Contains-rest y xs x (stood there)
+
+pub filter-passes : {X : Type 0} (test : X → Bool) (xs : List X) (x : X) → Contains (filter test xs) x → test x ≡ true
+filter-passes test [] x here = absurd (Contains-nil x here)
+filter-passes {X} test (y ∷ xs) x here = go (test y) refl here (λ later. filter-passes test xs x later)
+  where
+    go : (b : Bool) → test y ≡ b → Contains (if b then y ∷ filter test xs else filter test xs) x → (Contains (filter test xs) x → test x ≡ true) → test x ≡ true
+    go true e there passes = ⊎_elim (λ is. ap test (sym is) ∙ e) (λ later. passes later) (Contains-cases y (filter test xs) x there)
+    go false e there passes = passes there
 
 pub put-nothing : {X : Type 0} (xs : List X) (o : Option X) → put_behind xs o ≡ [] → xs ≡ []
 put-nothing [] o is = refl
@@ -252,6 +267,33 @@ module _ {S D P G C : Type 0} (g : Ghosts S D P G C) (f : Formats S D P G C) (s 
         go : (xs : List (Artifact S D P G C)) → ((x : Artifact S D P G C) → Contains xs x → finalizes (entry x) ≤ finalized_of s h) → floor (entries xs) ≤ finalized_of s h
         go [] most = omega arith
         go (x ∷ xs) most = most x (Contains-head x xs)
+
+    -- of the views that a rewrite dropped no verdict is kept, and none is awaited
+    unjudged : (views : ℕ) (c : Finalization S D P G C) (xs : List (Artifact S D P G C)) (r : Round) (ok : Bool) → r.view ≤ c.proposal.round.view → HasJudged (entries (rewritten views c xs)) r ok → ⊥
+    unjudged views c xs r ok low here =
+        let x = Contains-mapped entry (rewritten views c xs) (recorded.judged r ok) here in
+        ⊎_elim
+        (λ is. unlike (ap entry is ∙ x.2))
+        (λ later.
+        let above = ltb-true c.proposal.round.view (reach views (entry x.0)) (filter-passes (λ (y : Artifact S D P G C). nat_lt c.proposal.round.view (reach views (entry y))) xs x.0 later) in
+        let far : reach views (entry x.0) ≡ r.view = ap (reach views) x.2 in
+        omega (arith, above, far, low))
+        (Contains-cases (artifact.Finalization c) (filter (λ (y : Artifact S D P G C). nat_lt c.proposal.round.view (reach views (entry y))) xs) x.0 x.1)
+      where
+        unlike : ◌≡◌ {A = Entry D} (recorded.taken (finalize c.proposal)) (recorded.judged r ok) → ⊥
+        unlike e = cc e
+
+    pub dropped-unknown : (h : History S D P G C) (c : Finalization S D P G C) (view : ℕ) (ok : Bool) → AreAllowed g f s (Rewrote c ∷ h) → view ≤ c.proposal.round.view
+        → IsFirst (tests g f s (Rewrote c ∷ h) (event.Verdict view ok)) (Some refusal.UnknownAnswer)
+    dropped-unknown h c view ok all low =
+        let most = next-final h all.1 c (next-is-last (kept h) c all.0.due.next).0 in
+        inl (
+          (
+            λ judged. unjudged s.voter.length c (kept h) judged.0 judged.1 (let at = judged.2 in omega (arith, at, low)) judged.3,
+            λ awaited. let above = awaited.above in omega (arith, above, most, low),
+          ),
+          refl,
+        )
 
     finalized-rises : (p : Point S D P G C) (h : History S D P G C) → finalized_of s h ≤ finalized_of s (p ∷ h)
     finalized-rises p h = (all-rise s.voter (voter_points s (latest (p ∷ h)) (views.last_finalized (voter_of s h)) p) (voter_of s h)).1

@@ -1,6 +1,6 @@
 -- Records that begin at a floor, and are rewritten: what follows from the member model, as statements. Each is proved where a function
 -- without a body has it as a clause (`laws.rt`).
-use Rattle.std.specs.Prelude.{◌≡◌, ◌<◌, ◌≤◌, ◌++◌, false, List, [], ◌∷◌, Contains}
+use Rattle.std.specs.Prelude.{◌≡◌, ◌<◌, ◌≤◌, ◌++◌, ℕ, Bool, false, List, [], ◌∷◌, Contains, Some}
 use Rattle.types_core.specs.declared.scheme.Scheme.{Ghosts}
 use Rattle.messages_certificates.specs.declared.artifact.Artifact.{Artifact}
 use Rattle.messages_certificates.specs.declared.artifact.Artifact.TheVariants as artifact
@@ -13,12 +13,16 @@ use Rattle.simplex_record.specs.Rules.{reach}
 use Rattle.simplex_record.specs.Kept.{StandsForAll}
 use Rattle.simplex_record.specs.Lawful.{IsEverLawful, rewritten}
 use Rattle.simplex_member.specs.Allowed.{Allowed, AreAllowed, VoteIsDue}
+use Rattle.simplex_member.specs.declared.event.Event.TheVariants as event
+use Rattle.simplex_member.specs.declared.refusal.Refusal.TheVariants as refusal
 use Rattle.simplex_member.specs.Deeds.{deeds_of}
+use Rattle.simplex_member.specs.First.{IsFirst}
 use Rattle.simplex_member.specs.Layers.{current_of, finalized_of}
 use Rattle.simplex_member.specs.Lives.{Life, Lives}
 use Rattle.simplex_member.specs.Packet.{Formats}
 use Rattle.simplex_member.specs.Point.{Rewrote, History}
 use Rattle.simplex_member.specs.Recorded.{kept_of, record_of}
+use Rattle.simplex_member.specs.Refusals.{tests}
 use Rattle.simplex_member.specs.Setup.{Setup, owner_of}
 
 module _ {S D P G C : Type 0} (g : Ghosts S D P G C) (f : Formats S D P G C) (s : Setup S D C) where
@@ -40,6 +44,11 @@ module _ {S D P G C : Type 0} (g : Ghosts S D P G C) (f : Formats S D P G C) (s 
 
   abbrev pub RewritesAreSo : Type 0
   RewritesAreSo = (h : History S D P G C) (c : Finalization S D P G C) → Allowed g f s h (Rewrote c) → IsRewriteOf h c
+
+  -- of the views that a rewrite dropped no verdict is awaited, nor is one a second one: what is kept alone tells of verdicts
+  abbrev pub DroppedAreUnknown : Type 0
+  DroppedAreUnknown = (h : History S D P G C) (c : Finalization S D P G C) (view : ℕ) (ok : Bool) → AreAllowed g f s (Rewrote c ∷ h) → view ≤ c.proposal.round.view
+      → IsFirst (tests g f s (Rewrote c ∷ h) (event.Verdict view ok)) (Some refusal.UnknownAnswer)
 
   -- what is kept tells what all tells that the opening found and that was recorded since: each artifact of it is one of these, it has
   -- those of these that reach above the last finalized view, and it begins behind no view above that

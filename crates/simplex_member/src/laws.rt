@@ -5,7 +5,7 @@ ghost use Rattle.types_codec.specs.Codec.{Readable};
 ghost use Rattle.messages_certificates.specs.declared.artifact.Artifact.{Artifact};
 ghost use Rattle.messages_certificates.specs.Artifact.{artifact_fits, artifact_spelling, artifact_within};
 ghost use Rattle.simplex_member.specs.Doing.{ActsEnd, ActsEndAnyhow, NothingIsDoneTwice};
-ghost use Rattle.simplex_member.specs.Floors.{AllIsKept, KeptTellsAll, LivesLeaveAll, NoneIsDueBelow, ParentsLieFromFloor, RewritesAreSo};
+ghost use Rattle.simplex_member.specs.Floors.{AllIsKept, DroppedAreUnknown, KeptTellsAll, LivesLeaveAll, NoneIsDueBelow, ParentsLieFromFloor, RewritesAreSo};
 ghost use Rattle.simplex_member.specs.Laws.{AcceptedAreKnown, Agree, AgreeIfHonest, AreReadBack, AwaitedIsJudgeable, AwaitedMayBeRecorded, BlockedByRefusalAlone, BroughtFloorsAreSound, CanBeSent, ConstructionsBlockNone, CorrectVotesAreSound, CorrectVotesContradictNone, DeedsAreDone, DeedsAreOfPoints, DueFinalizeMayBeRecorded, DueIsBound, DueMayBeRecorded, DueNullifyMayBeRecorded, EarlyIsInTime, EmptyIsOpened, FinalizeAlike, HandedCertificatesAreSound, IsExact, KnownNullifiesAreRecorded, LeftIsFound, LeftStandsOnGround, LieOnOneChain, LifeLaws, ListLaws, LivesLeaveLawful, LivesLeaveReadable, MadeAreHonest, MadeAreSound, MadeIsAllowed, MadeListVotes, NeverContradicts, NeverForeign, NextStandsOnGround, NoQuorumIsLost, NoneIsBlamed, OneIsRead, OwnVotesAgree, PacketsAreInGrammar, ProposalsLieInTheirViews, ReachedAreGoneTo, RecordLaws, RecordsGrow, RecordsStandOnGround, RecordsStayLawful, ReportedCertify, ReportsAreHonest, RequestsAreTracked, RoundLaws, RunsAreStretches, StepsOfSeveralRaiseLittle, StepsRaiseLittle, ViewsNeverFall, VotersAreOrderly, VotersTellTheRecord, VotesAreLawful, VotesAreRecorded, VotesWereDue};
 ghost use Rattle.simplex_member.specs.Packet.{Formats, IsRecordable, formats};
 ghost use Rattle.simplex_member.specs.Setup.{Setup};
@@ -118,11 +118,13 @@ pub fn never_foreign<S: Scheme<D>, D: Digest>()
 
 /// A rewrite begins what is kept with the finalization of its last finalized view, and drops what doesn't reach above that. It
 /// changes neither the current view nor the last finalized one, nothing else of what the voter knows of these, and hands
-/// nothing out.
+/// nothing out. A verdict on a view that it dropped is refused as one that nothing awaits, also where one was recorded.
 pub fn rewrites_are_so<S: Scheme<D>, D: Digest>()
-    ensures { (f : Formats S D S.PublicKey S.Signature S.Certificate) (s : Setup S D S.Certificate) → RewritesAreSo S.Scheme f s }
+    ensures rewrites { (f : Formats S D S.PublicKey S.Signature S.Certificate) (s : Setup S D S.Certificate) → RewritesAreSo S.Scheme f s }
+    ensures dropped { (f : Formats S D S.PublicKey S.Signature S.Certificate) (s : Setup S D S.Certificate) → DroppedAreUnknown S.Scheme f s }
 {
     a_rewritten_record_is_lawful::<S, D>();
+    what_is_known_is_recorded::<S, D>();
 }
 
 /// What is kept through rewrites is of what was recorded, and all of it that reaches above the last finalized view; where nothing may
