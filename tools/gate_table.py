@@ -81,7 +81,7 @@ def of_crates():
 
 
 def of_runs():
-    yield "| Run of | Processors | Load | By the clock | In all | Of it `rt`'s own | A prover held at most |"
+    yield "| Run of | Processors | Load | Minutes by the clock | Of processors | Of these `rt`'s own | A prover held at most |"
     yield "|---|---:|---|---:|---:|---:|---:|"
     for it in figures()["runs"]:
         load = "nothing else ran" if it["load"] is None else "{} in the mean, {} at most".format(*it["load"])
