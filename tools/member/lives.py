@@ -10,6 +10,7 @@ from .judging import CONFIG, bytes_of, reset_line
 from .member import rewriting
 from .peers import Peers, spelled
 from .player import Player
+from .positions import MOST
 from .record import Record, floor_of, founded, kept_record, reach, record, recorded_by, rewritten
 from .streams import last_wake, setup_of
 from .values import FINALIZATION, FINALIZE, NOTARIZE, Proposal, Reply, Vote
@@ -95,7 +96,7 @@ class Lives:
     def finalization(self):
         """One of some view around the last finalized one."""
         scheme, final = self.setup.scheme, last_finalized(self.h) if self.h else 0
-        view = max(final + self.pick.choice((-1, 0, 1, 2, 3, 7)), 1)
+        view = min(max(final + self.pick.choice((-1, 0, 1, 2, 3, 7)), 1), MOST)
         on = Proposal(self.setup.epoch, view, view - 1, bytes([self.pick.randrange(1, 6)]) * 32)
         signers = self.pick.sample(range(scheme.members), scheme.quorum)
         return scheme.assemble(FINALIZATION, on, [scheme.sign(FINALIZE, on, it) for it in signers])
