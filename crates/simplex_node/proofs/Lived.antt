@@ -318,7 +318,7 @@ module _ {S L D P G C : Type 0} (g : Ghosts S D P G C) (e : elector.Ghosts L S D
     pub left-more : (answer : Option (Answered S D P G C)) (seen image : List ℕ) (is : Left before seen) (course : Course S D P G C) (end : History S D P G C)
         → AllIsKept g f t → IsLifeOf g e f s.me o (life_by course) → Gives g e f s.me o answer (life_by course)
         → Lived g f t is.left course end → Reads image (map f.artifact (record_of end)) → Left (before ++ trial o answer ∷ []) image
-    left-more answer seen image is course end whole life gives lived reads = record {
+    left-more answer seen image is course end all_kept life gives lived reads = record {
       lives = is.lives ++ life_by course ∷ [];
       all = is.all ++ ([] ++ fresh_of end);
       left = kept_of t.voter.length end;
@@ -326,14 +326,14 @@ module _ {S L D P G C : Type 0} (g : Ghosts S D P G C) (e : elector.Ghosts L S D
       lived = lives-on g f s [] [] is.lives is.all is.left (life_by course) end is.lived
           (record { appends = none-founded g f course is.left; readable = λ y here. absurd (Contains-nil y here) })
           (subst (λ (xs : List (Artifact S D P G C)). Lived g f t xs course end) (sym (append-nil is.left)) lived) one;
-      reads = subst (λ (xs : List (Artifact S D P G C)). Reads image (map f.artifact xs)) (sym (whole end (lived-allowed g f t is.left course end lived) refl)) reads;
+      reads = subst (λ (xs : List (Artifact S D P G C)). Reads image (map f.artifact xs)) (sym (all_kept end (lived-allowed g f t is.left course end lived) refl)) reads;
     }
 
     module _ {K : Type 0} (k : disk.Ghosts K) (Readable : Artifact S D P G C → Type 0) (on : K) (keeps : k.keeps)
         (one_record : (image : List ℕ) (bodies others : List (List ℕ)) → Reads image bodies → Reads image others → bodies ≡ others)
         (found_is : (lives : List (Life S D P G C)) (all left found : List (Artifact S D P G C)) (image : List ℕ) → Lives g f s [] [] lives all left → Reads image (map f.artifact left)
         → All Readable found → Reads image (map f.artifact found) → found ≡ left)
-        (whole : AllIsKept g f t)
+        (all_kept : AllIsKept g f t)
         (start : MayLeaveOnly (k.calls on) (Left before)) (seen : MayLeave (k.calls on) (k.seen on)) where
       -- what was left at the start
       pub at-start : Left before (k.seen on)
@@ -357,7 +357,7 @@ module _ {S L D P G C : Type 0} (g : Ghosts S D P G C) (e : elector.Ghosts L S D
             lived = was.lived;
             reads = subst (λ (bodies : List (List ℕ)). Reads image bodies) (one_record before-image read (map f.artifact was.left) reads_before was.reads) reads;
           })
-      left-open answer begins gives image (read, reads, inr (found, are, opened)) = left-more answer (k.seen on) image at-start (Broken o.now opened.0) opened.1 whole
+      left-open answer begins gives image (read, reads, inr (found, are, opened)) = left-more answer (k.seen on) image at-start (Broken o.now opened.0) opened.1 all_kept
           (record { setup = refl; brought = refl; now = refl; left = o.events.items; events = refl }) (gives opened.0)
           (subst (λ (xs : List (Artifact S D P G C)). Lived g f t xs (Broken o.now opened.0) opened.1) (found-left found are) (opened.2, opened.3))
           (subst (λ (bodies : List (List ℕ)). Reads image bodies) opened.4 reads)
@@ -368,7 +368,7 @@ module _ {S L D P G C : Type 0} (g : Ghosts S D P G C) (e : elector.Ghosts L S D
           → Gives g e f s.me o answer (life_by (Lasting o.now opens.points is.turns is.cut))
           → Left (before ++ trial o answer ∷ []) image
       left-turned answer found first mid replies fault are opens image is gives =
-          left-more answer (k.seen on) image at-start (Lasting o.now opens.points is.turns is.cut) is.end whole
+          left-more answer (k.seen on) image at-start (Lasting o.now opens.points is.turns is.cut) is.end all_kept
           (record { setup = refl; brought = refl; now = refl; left = is.left; events = is.split }) gives
           (subst (λ (xs : List (Artifact S D P G C)). Lived g f t xs (Lasting o.now opens.points is.turns is.cut) is.end) (found-left found are)
           (mid, is.last, opens.opening, opens.rests, is.turned, is.is_cut))
