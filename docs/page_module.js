@@ -2,9 +2,9 @@
 // crates/world_page, compiled: ./voumlis build writes this file, and tools/check-page looks whether it fits.
 const PAGE_MODULE = {
  "proved": true,
- "commit": "07055a8105c4",
+ "commit": "069851263c52",
  "kit": "rattle-kit-13f logic dac8208d650f15bf",
- "code": "cffb6dabaab6e6a75562ccbe6f8c2a56b3c0501012464ddc1c570b3479683bca",
+ "code": "2b8c0306592341adeceaf2497d1daf811cdcefc431c9368ded1488585c4e752b",
  "heap": "3eca171c3cdbbdc05ef9bbbe3c72f6ac263580607564237721b17f50ede0a4b1",
  "sha256": "092d3655aeec8abe4a9763f724ad32129b88243f4d9d45938e7801fcacf44264",
  "bytes": 794364,
