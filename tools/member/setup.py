@@ -7,6 +7,8 @@ from .positions import MOST, Terms
 # how many views of a term may be optimistic
 MOST_OPTIMISTIC = 1_000
 FORWARDS = ("disabled", "silent-voters", "silent-leader")
+# an ask that nothing settled goes once, or again with each repeated nullify
+AGAINS = ("once", "with-nullify")
 
 
 @dataclass(frozen=True)
@@ -31,6 +33,9 @@ class Setup:
     # whether a view may be built on the last view of the term before, while that isn't decided
     handoffs: bool
     genesis: bytes = bytes(32)
+    # whether an ask that nothing settled goes again with a repeated nullify, and how many views to leave behind are asked for at once
+    goes_again: bool = False
+    window: int | None = None
 
     @cached_property
     def terms(self):

@@ -22,7 +22,7 @@ use messages_certificates::Artifact;
 use node_core::{Core, Layers, Settings};
 use node_due::settle;
 use node_record::Ledger;
-use simplex_member::{Action, NodeFault, OpenFault, Speaks};
+use simplex_member::{Action, Again, NodeFault, OpenFault, RepairPolicy, Speaks};
 use simplex_record::Owner;
 use std::alloc::Global;
 use std::rc::Rc;
@@ -375,6 +375,10 @@ fn settings_of<S: Scheme<D>, L: Elector<S, D>, D: Digest>(
         owner,
         forward: config.forward,
         silence: silence_of(config.skip),
+        repair: RepairPolicy {
+            again: Again::Once,
+            window: None,
+        },
         longest: longest_timeout(config, &terms),
     }
 }

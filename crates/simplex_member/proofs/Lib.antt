@@ -67,3 +67,4 @@ mod Low
 mod Floored
 mod Three
 mod Above
+mod Asks
