@@ -24,8 +24,6 @@ pub record Setup (S D C : Type 0) : Type 0 where
   pub forward : ForwardPolicy
   -- votes are kept in full for good
   pub tracks : Bool
-  -- its record may be rewritten
-  pub rewrites : Bool
 
 -- for how long a leader may be silent
 abbrev pub silence_of : SkipPolicy → Option ℕ
@@ -84,5 +82,4 @@ module _ {S L D P G C : Type 0} where
     silence = silence_of config.skip;
     forward = config.forward;
     tracks = config.track_historical_votes;
-    rewrites = false;
   }
