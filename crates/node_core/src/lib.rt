@@ -23,4 +23,5 @@ pub use node_state::Core;
 pub use settings::Settings;
 pub use told_layers::{
     give, judge_repair, own_votes_come_free, update_repair, what_is_not_recorded_is_unknown,
+    what_is_unknown_is_not_recorded,
 };

@@ -6,6 +6,7 @@ ghost use Rattle.messages_certificates.specs.Certificate.{any_certificate_spelli
 ghost use Rattle.messages_certificates.specs.declared.certificate.Certificate.{Certificate};
 ghost use Rattle.simplex_messages.specs.declared.vote.Vote.{Vote};
 ghost use Rattle.simplex_messages.specs.VoteParts.{vote_artifact, vote_round};
+ghost use Rattle.types_terms.specs.Windows.{Retains};
 ghost use Rattle.batcher_verifier.specs.History.{recorded};
 ghost use Rattle.voter_history.specs.History.{notarized, nullified, finalized, nullification, seen};
 ghost use Rattle.voter_history.specs.Past as past;
@@ -15,7 +16,7 @@ ghost use Rattle.simplex_resolver.specs.RepairHistory.{Judged, item_of};
 ghost use Rattle.simplex_member.specs.declared.fault.NodeFault.TheVariants as step_fault;
 ghost use Rattle.simplex_member.specs.Allowed.{AreAllowed};
 ghost use Rattle.simplex_member.specs.Laws.{IsExact};
-ghost use Rattle.simplex_member.specs.Layers.{given, voter_of, votes_of};
+ghost use Rattle.simplex_member.specs.Layers.{finalized_of, given, voter_of, votes_of};
 ghost use Rattle.simplex_member.specs.Packet.{Formats};
 ghost use Rattle.simplex_member.specs.Point.{Found, History, Votes};
 ghost use Rattle.simplex_member.specs.Refusals.{HasNoneLike};
@@ -39,6 +40,22 @@ pub fn what_is_not_recorded_is_unknown<S: Scheme<D>, D: Digest>()
         → h ≢ []
         → HasNoneLike S.Scheme f s h (certificate_statement c)
         → IsUnknown s.voter (voter_of s h) c }
+{
+    voters_are_orderly::<S, D>();
+    voters_tell_the_record::<S, D>();
+    what_is_known_is_recorded::<S, D>();
+    what_is_recorded_is_known::<S, D>();
+}
+
+/// Where the voter knows no certificate of a kind and a view that it keeps, none is recorded.
+pub fn what_is_unknown_is_not_recorded<S: Scheme<D>, D: Digest>()
+    ensures { (f : Formats S D S.PublicKey S.Signature S.Certificate) (s : Setup S D S.Certificate)
+        (h : History S D S.PublicKey S.Signature S.Certificate) (c : Certificate S D S.PublicKey S.Signature S.Certificate)
+        → AreAllowed S.Scheme f s h
+        → h ≢ []
+        → Retains (finalized_of s h) s.voter.retention (certificate_round c).view
+        → IsUnknown s.voter (voter_of s h) c
+        → HasNoneLike S.Scheme f s h (certificate_statement c) }
 {
     voters_are_orderly::<S, D>();
     voters_tell_the_record::<S, D>();

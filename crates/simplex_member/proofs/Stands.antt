@@ -25,15 +25,18 @@ use Rattle.simplex_record.specs.Kept.{IsBehind, StandsForAll}
 use Rattle.simplex_record.specs.Lawful.{Fits, IsLawful, rewritten}
 use Rattle.voter_laws.specs.Matching.{EachHistoryMatches}
 use Rattle.simplex_member.specs.Allowed.{Allowed, AreAllowed, MayRecord, MayRewrite}
+use Rattle.simplex_member.specs.Floors.{IsOfViews}
 use Rattle.simplex_member.specs.Laws.{RecordLaws}
 use Rattle.simplex_member.specs.Layers.{is_begun}
 use Rattle.simplex_member.specs.Packet.{Formats}
 use Rattle.simplex_member.specs.Point.{Point, Found, Began, Came, Judged, Constructs, Votes, Rewrote, History}
 use Rattle.simplex_member.specs.Recorded.{kept_of, put_behind, record_of, recorded_by}
 use Rattle.simplex_member.specs.Setup.{Setup, owner_of}
+use Rattle.simplex_member.proofs.Above.{current-above}
 use Rattle.simplex_member.proofs.Growing.{lawful-put}
 use Rattle.simplex_member.proofs.Kept.{PutsBehind, finalized-ge, floor-final, floor-put, kept-floor, kept-floor-final, kept-last, kept-nothing, kept-within, left-there, may-rewrite, next-is-last, rewrote-kept, ways-of}
 use Rattle.simplex_member.proofs.Lists.{Contains-map, Contains-mapped, if-some, put-before, put-cases, put-here}
+use Rattle.simplex_member.proofs.Recordable.{matches}
 use Rattle.simplex_member.proofs.Telling.{apart}
 
 -- ---- lists
@@ -252,9 +255,15 @@ module _ {S D P G C : Type 0} (g : Ghosts S D P G C) (f : Formats S D P G C) (s 
       nothing = λ none. ap entries (kept-nothing g f s h (unmapped entry (kept h) none));
     }
 
-    -- ---- what may come next
-
     module _ (law : EachHistoryMatches S D P G C) where
+      pub kept-views : (h : History S D P G C) → AreAllowed g f s h → h ≢ [] → IsOfViews g f s h
+      kept-views [] all some = absurd (some refl)
+      kept-views (q ∷ h) all some =
+          let m = matches g f s law q h all in
+          record { current = m.current ∙ sym (currents (q ∷ h) all); final = m.last_finalized ∙ sym (finals (q ∷ h) all); ahead = current-above g f s law q h all }
+
+      -- ---- what may come next
+
       certificate-behind : (h : History S D P G C) (c : Certificate S D P G C) → IsBehind (floor (entries (kept h))) (entry (certificate_artifact c))
       certificate-behind h (certificate.Notarization c) = tt
       certificate-behind h (certificate.Nullification c) = tt

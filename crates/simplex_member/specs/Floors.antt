@@ -1,6 +1,6 @@
 -- Records that begin at a floor, and are rewritten: what follows from the member model, as statements. Each is proved where a function
 -- without a body has it as a clause (`laws.rt`).
-use Rattle.std.specs.Prelude.{◌≡◌, ◌<◌, ◌≤◌, ◌++◌, ℕ, Bool, List, [], ◌∷◌, Contains, Some}
+use Rattle.std.specs.Prelude.{◌≡◌, ◌≢◌, ◌<◌, ◌≤◌, ◌++◌, ℕ, Bool, List, [], ◌∷◌, Contains, Some}
 use Rattle.types_core.specs.declared.scheme.Scheme.{Ghosts}
 use Rattle.messages_certificates.specs.declared.artifact.Artifact.{Artifact}
 use Rattle.messages_certificates.specs.declared.artifact.Artifact.TheVariants as artifact
@@ -65,6 +65,15 @@ module _ {S D P G C : Type 0} (g : Ghosts S D P G C) (f : Formats S D P G C) (s 
   -- one current view and one last finalized view
   abbrev pub KeptStandsForAll : Type 0
   KeptStandsForAll = (h : History S D P G C) → AreAllowed g f s h → StandsForAll s.voter.length (entries (record_of h)) (entries (kept_of s.voter.length h))
+
+  -- what is kept is of the voter's current view and of its last finalized one, which lies below that
+  pub record IsOfViews (h : History S D P G C) : Type 0 where
+    pub current : current_of s h ≡ current_view s.voter.length (entries (kept_of s.voter.length h))
+    pub final : finalized_of s h ≡ last_finalized (entries (kept_of s.voter.length h))
+    pub ahead : finalized_of s h < current_of s h
+
+  abbrev pub KeptIsOfViews : Type 0
+  KeptIsOfViews = (h : History S D P G C) → AreAllowed g f s h → h ≢ [] → IsOfViews h
 
   -- what is kept is a lawful record
   abbrev pub KeptIsLawful : Type 0

@@ -5,7 +5,7 @@ ghost use Rattle.types_codec.specs.Codec.{Readable};
 ghost use Rattle.messages_certificates.specs.declared.artifact.Artifact.{Artifact};
 ghost use Rattle.messages_certificates.specs.Artifact.{artifact_fits, artifact_spelling, artifact_within};
 ghost use Rattle.simplex_member.specs.Doing.{ActsEnd, ActsEndAnyhow, NothingIsDoneTwice};
-ghost use Rattle.simplex_member.specs.Floors.{DroppedAreUnknown, KeptIsLawful, KeptStandsForAll, KeptTellsAll, LivesLeaveAll, NextFitsKept, NoneIsDueBelow, ParentsLieFromFloor, RewritesAreSo, RewritesLeaveNothingDue};
+ghost use Rattle.simplex_member.specs.Floors.{DroppedAreUnknown, KeptIsLawful, KeptIsOfViews, KeptStandsForAll, KeptTellsAll, LivesLeaveAll, NextFitsKept, NoneIsDueBelow, ParentsLieFromFloor, RewritesAreSo, RewritesLeaveNothingDue};
 ghost use Rattle.simplex_member.specs.Laws.{AcceptedAreKnown, Agree, AgreeIfHonest, AreReadBack, AwaitedIsJudgeable, AwaitedMayBeRecorded, BlockedByRefusalAlone, BroughtFloorsAreSound, CanBeSent, ConstructionsBlockNone, CorrectVotesAreSound, CorrectVotesContradictNone, DeedsAreDone, DeedsAreOfPoints, DueFinalizeMayBeRecorded, DueIsBound, DueMayBeRecorded, DueNullifyMayBeRecorded, EarlyIsInTime, EmptyIsOpened, FinalizeAlike, HandedCertificatesAreSound, IsExact, KnownNullifiesAreRecorded, LeftIsFound, LeftStandsOnGround, LieOnOneChain, LifeLaws, ListLaws, LivesLeaveLawful, LivesLeaveReadable, MadeAreHonest, MadeAreSound, MadeIsAllowed, MadeListVotes, NeverContradicts, NeverForeign, NextStandsOnGround, NoQuorumIsLost, NoneIsBlamed, OneIsRead, OwnVotesAgree, PacketsAreInGrammar, ProposalsLieInTheirViews, ReachedAreGoneTo, RecordLaws, RecordsGrow, RecordsStandOnGround, RecordsStayLawful, ReportedCertify, ReportsAreHonest, RequestsAreTracked, RoundLaws, RunsAreStretches, StepsOfSeveralRaiseLittle, StepsRaiseLittle, ViewsNeverFall, VotersAreOrderly, VotersTellTheRecord, VotesAreLawful, VotesAreRecorded, VotesWereDue};
 ghost use Rattle.simplex_member.specs.Packet.{Formats, IsRecordable, formats};
 ghost use Rattle.simplex_member.specs.Setup.{Setup};
@@ -145,6 +145,7 @@ pub fn what_is_kept_tells_all<S: Scheme<D>, D: Digest>()
 /// one, and what may come next fits behind it.
 pub fn what_is_kept_stands_for_all<S: Scheme<D>, D: Digest>()
     ensures stands { (f : Formats S D S.PublicKey S.Signature S.Certificate) (s : Setup S D S.Certificate) → KeptStandsForAll S.Scheme f s }
+    ensures views { (f : Formats S D S.PublicKey S.Signature S.Certificate) (s : Setup S D S.Certificate) → KeptIsOfViews S.Scheme f s }
     ensures lawful { (f : Formats S D S.PublicKey S.Signature S.Certificate) (s : Setup S D S.Certificate) → KeptIsLawful S.Scheme f s }
     ensures fits { (f : Formats S D S.PublicKey S.Signature S.Certificate) (s : Setup S D S.Certificate) → NextFitsKept S.Scheme f s }
 {
