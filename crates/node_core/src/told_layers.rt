@@ -1,6 +1,6 @@
 //! What voter and repair learn of a certificate or a verdict.
 
-ghost use Rattle.std.specs.Prelude.{◌≡◌, ◌≢◌, ◌∷◌, [], Bool, true, None, IfErr, OnOk, is_none};
+ghost use Rattle.std.specs.Prelude.{◌≡◌, ◌≢◌, ◌∷◌, [], Bool, true, false, None, IfErr, OnOk, is_none};
 ghost use Rattle.types_core.specs.Positions.{HasRoom};
 ghost use Rattle.messages_certificates.specs.Certificate.{any_certificate_spelling, as_notarization, certificate_round, certificate_statement};
 ghost use Rattle.messages_certificates.specs.declared.certificate.Certificate.{Certificate};
@@ -154,6 +154,28 @@ pub fn give<S: Scheme<D> + Drop, L: Elector<S, D>, D: Digest>(
         }
         Certificate::Finalization(finalization) => {
             give_finalization(alloc, now, finalization, voter)
+        }
+    }
+}
+
+/// Whether the voter knows a certificate of this one's kind and view.
+pub fn knows_like<S: Scheme<D>, L: Elector<S, D>, D: Digest>(
+    voter: &Voter<S, L, D>,
+    certificate: &Certificate<S, D>,
+) -> bool
+    ensures known { result ≡ true → voting.AtEach S.Scheme L.Elector voter.now (λ s h. ¬ IsUnknown s h certificate.now) }
+    ensures unknown { result ≡ false → voting.AtEach S.Scheme L.Elector voter.now (λ s h. IsUnknown s h certificate.now) }
+{
+    let views = voter.views();
+    match certificate {
+        Certificate::Notarization(notarization) => {
+            views.notarization(notarization.proposal.round.view).is_some()
+        }
+        Certificate::Nullification(nullification) => {
+            views.nullification(nullification.round.view).is_some()
+        }
+        Certificate::Finalization(finalization) => {
+            views.finalization(finalization.proposal.round.view).is_some()
         }
     }
 }

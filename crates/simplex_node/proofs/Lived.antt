@@ -29,7 +29,7 @@ use Rattle.simplex_member.specs.Member as whole
 use Rattle.simplex_member.specs.Member.{Goes, AreActionsOf, IsReached, Run, Steps, Takes, after}
 use Rattle.simplex_member.specs.Packet.{Formats}
 use Rattle.simplex_member.specs.Point.{Point, Rewrote, History}
-use Rattle.simplex_member.specs.Recorded.{fresh_of, kept_of, record_of}
+use Rattle.simplex_member.specs.Recorded.{fresh_of, kept_of}
 use Rattle.simplex_member.specs.Refusals.{refused_deeds, tests}
 use Rattle.simplex_member.specs.Setup.{IsOfOneMember, Setup, owner_of}
 use Rattle.simplex_record.specs.declared.owner.Owner.{Owner}
@@ -136,7 +136,7 @@ module _ {S D P G C : Type 0} (g : Ghosts S D P G C) (f : Formats S D P G C) whe
 
     -- all events were answered
     pub turns-whole : (h : History S D P G C) (events : List (Event D)) (replies : List (Reply S D P G C)) (end : History S D P G C) (fault : Option NodeFault) (image : List ℕ)
-        → Run g f s h events replies end → Reads image (map f.artifact (record_of end)) → IsLeftByTurns g f s h events replies fault image
+        → Run g f s h events replies end → Reads image (map f.artifact (kept_of s.voter.length end)) → IsLeftByTurns g f s h events replies fault image
     turns-whole h events replies end fault image run reads =
         let t = run-turns h events replies end run in
         record {
@@ -154,7 +154,7 @@ module _ {S D P G C : Type 0} (g : Ghosts S D P G C) (f : Formats S D P G C) whe
         }
 
     -- none was
-    pub turns-none : (h : History S D P G C) (events : List (Event D)) (why : NodeFault) (image : List ℕ) → Reads image (map f.artifact (record_of h)) → IsLeftByTurns g f s h events [] (Some why) image
+    pub turns-none : (h : History S D P G C) (events : List (Event D)) (why : NodeFault) (image : List ℕ) → Reads image (map f.artifact (kept_of s.voter.length h)) → IsLeftByTurns g f s h events [] (Some why) image
     turns-none h events why image reads = record {
       turns = [];
       last = h;
@@ -317,7 +317,7 @@ module _ {S L D P G C : Type 0} (g : Ghosts S D P G C) (e : elector.Ghosts L S D
     -- one life more, which rewrites nothing
     pub left-more : (answer : Option (Answered S D P G C)) (seen image : List ℕ) (is : Left before seen) (course : Course S D P G C) (end : History S D P G C)
         → AllIsKept g f t → IsLifeOf g e f s.me o (life_by course) → Gives g e f s.me o answer (life_by course)
-        → Lived g f t is.left course end → Reads image (map f.artifact (record_of end)) → Left (before ++ trial o answer ∷ []) image
+        → Lived g f t is.left course end → Reads image (map f.artifact (kept_of s.voter.length end)) → Left (before ++ trial o answer ∷ []) image
     left-more answer seen image is course end whole life gives lived reads = record {
       lives = is.lives ++ life_by course ∷ [];
       all = is.all ++ ([] ++ fresh_of end);

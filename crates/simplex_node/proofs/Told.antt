@@ -31,10 +31,10 @@ use Rattle.simplex_member.specs.First.{IsFirst}
 use Rattle.simplex_member.specs.Floors.{AllIsKept}
 use Rattle.simplex_member.specs.Laws.{LeftIsFound, NeverContradicts, NeverForeign}
 use Rattle.simplex_member.specs.Lives.{Lasting}
-use Rattle.simplex_member.specs.Member.{IsReached, ReadsAs}
+use Rattle.simplex_member.specs.Member.{IsReached, ReadsAsKept}
 use Rattle.simplex_member.specs.Packet.{Formats}
 use Rattle.simplex_member.specs.Point.{History}
-use Rattle.simplex_member.specs.Recorded.{record_of}
+use Rattle.simplex_member.specs.Recorded.{kept_of}
 use Rattle.simplex_member.specs.Setup.{IsOfOneMember, Setup, owner_of}
 use Rattle.node_record.specs.Ledger.{IsContradiction}
 use Rattle.node_steps.specs.declared.node.Node.{Node}
@@ -220,9 +220,9 @@ module _ {S L D P G C K : Type 0} (g : Ghosts S D P G C) (e : elector.Ghosts L S
 -- ---- the steps behind an opening
 
 module _ {S L D P G C K : Type 0} (g : Ghosts S D P G C) (e : elector.Ghosts L S D P G C) (k : disk.Ghosts K) (f : Formats S D P G C) (s : Setup S D C) (node : Node S L D K P G C) (new : K)
-    (closed : (h : History S D P G C) → NodeKeeps g e k f s node h → k.keeps → (read : List (List ℕ)) → MayBeRead k (One new) read → ReadsAs g f s read h) (keeps : k.keeps) where
+    (closed : (h : History S D P G C) → NodeKeeps g e k f s node h → k.keeps → (read : List (List ℕ)) → MayBeRead k (One new) read → ReadsAsKept g f s read h) (keeps : k.keeps) where
   -- an image that is left reads as the record
-  reads-closed : (h : History S D P G C) → NodeKeeps g e k f s node h → (image : List ℕ) → MayLeave (k.calls new) image → Reads image (map f.artifact (record_of h))
+  reads-closed : (h : History S D P G C) → NodeKeeps g e k f s node h → (image : List ℕ) → MayLeave (k.calls new) image → Reads image (map f.artifact (kept_of s.voter.length h))
   reads-closed h stands image left = let any = reads_any image in subst (λ (bodies : List (List ℕ)). Reads image bodies) (closed h stands keeps any.0 (image, left, any.1)) any.1
 
   -- by what a run answered
@@ -235,7 +235,7 @@ module _ {S L D P G C K : Type 0} (g : Ghosts S D P G C) (e : elector.Ghosts L S
         any.0,
         any.1,
         left_last k (IsReached g f s fails.runs.end event) (disks_of fails.before) (disks_of node) any.0
-            (book_leaves k (IsReached g f s fails.runs.end event) f.artifact (record_of fails.runs.end) (book_of fails.before) (book_of node) (fails.runs.keeps.core.ledger.journal keeps) (fails.any_moment keeps))
+            (book_leaves k (IsReached g f s fails.runs.end event) f.artifact (kept_of s.voter.length fails.runs.end) (book_of fails.before) (book_of node) (fails.runs.keeps.core.ledger.journal keeps) (fails.any_moment keeps))
             (subst (λ (d : Disks K). MayBeRead k d any.0) (sym is) (image, left, any.1)),
       ))
 
