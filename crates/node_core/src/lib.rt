@@ -10,6 +10,7 @@ mod handing;
 mod layers;
 mod node_state;
 mod recalling;
+mod rewriting;
 mod saying;
 mod settings;
 mod telling;
