@@ -13,9 +13,7 @@ use crate::node_state::Core;
 use journal_single::Disk;
 use node_record::quiet_points_leave_the_tables;
 use node_votes::silent_points_leave_votes;
-use simplex_member::{
-    NodeFault, Speaks, rewrites_leave_nothing_due, what_is_kept_stands_for_all,
-};
+use simplex_member::{NodeFault, Speaks, rewrites_leave_nothing_due, what_is_kept_stands_for_all};
 use types_core::{Digest, Scheme, View};
 use types_terms::Elector;
 

@@ -169,13 +169,17 @@ pub fn knows_like<S: Scheme<D>, L: Elector<S, D>, D: Digest>(
     let views = voter.views();
     match certificate {
         Certificate::Notarization(notarization) => {
-            views.notarization(notarization.proposal.round.view).is_some()
+            views
+                .notarization(notarization.proposal.round.view)
+                .is_some()
         }
         Certificate::Nullification(nullification) => {
             views.nullification(nullification.round.view).is_some()
         }
         Certificate::Finalization(finalization) => {
-            views.finalization(finalization.proposal.round.view).is_some()
+            views
+                .finalization(finalization.proposal.round.view)
+                .is_some()
         }
     }
 }

@@ -246,12 +246,12 @@ module _ {S D P G C : Type 0} (g : Ghosts S D P G C) (f : Formats S D P G C) (s 
   votes-still none = record {
     no_notarize = λ view due. none.no_notarize view (was (λ k. NotarizeIsDue (member_of s) k view) (notarize-due (member_of s) (known_of s h) high low view (omega arith)) due);
     no_nullify = λ due. none.no_nullify (record {
-          gives_up = record { current = due.gives_up.current; some = due.gives_up.some; room = due.gives_up.room; not_finalized = due.gives_up.not_finalized };
-          moment = due.moment;
-          why = due.why;
-          next = due.next;
-          reached = due.reached;
-        });
+      gives_up = record { current = due.gives_up.current; some = due.gives_up.some; room = due.gives_up.room; not_finalized = due.gives_up.not_finalized };
+      moment = due.moment;
+      why = due.why;
+      next = due.next;
+      reached = due.reached;
+    });
     no_finalize = λ view due. none.no_finalize view (was (λ k. FinalizeIsDue (member_of s) k view) (finalize-due (member_of s) (known_of s h) high low view) due);
     retry_known = none.retry_known;
   }

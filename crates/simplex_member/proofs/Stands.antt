@@ -301,10 +301,10 @@ module _ {S D P G C : Type 0} (g : Ghosts S D P G C) (f : Formats S D P G C) (s 
           by false no = subst (λ (l : List (Artifact S D P G C)). Fits (g.attests s.voter.scheme) (g.certifies s.voter.scheme) (owner_of s) l x) (sym (unbegun-kept h all.1 no)) fits
           by true begun = ⊎_elim
               (λ some. record {
-              verifies = fits.verifies;
-              follows = follows-kept s.voter.length some (entries (record_of h)) (entries (kept h)) (kept-stands h all.1) (entry x)
-                  (if-some (λ (y : Artifact S D P G C). IsBehind (floor (entries (kept h))) (entry y)) (recorded_by p) x (next-behind h all.1 begun p all.0) is) fits.follows;
-            })
+                verifies = fits.verifies;
+                follows = follows-kept s.voter.length some (entries (record_of h)) (entries (kept h)) (kept-stands h all.1) (entry x)
+                    (if-some (λ (y : Artifact S D P G C). IsBehind (floor (entries (kept h))) (entry y)) (recorded_by p) x (next-behind h all.1 begun p all.0) is) fits.follows;
+              })
               (λ none. subst (λ (l : List (Artifact S D P G C)). Fits (g.attests s.voter.scheme) (g.certifies s.voter.scheme) (owner_of s) l x) (sym (termless-kept (omega (arith, none)) h all.1)) fits)
               (cases_lt 0 s.voter.length)
 

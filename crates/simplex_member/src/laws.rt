@@ -26,8 +26,8 @@ use simplex_record::{
 use simplex_resolver::what_is_produced_came;
 use types_core::{Digest, Listing, Scheme};
 use voter_laws::{
-    a_latch_changes_nothing_due, a_lone_member_stands_on_ground, what_is_due_may_be_recorded, what_is_due_stands_on_ground,
-    what_is_known_is_recorded, what_is_recorded_is_known,
+    a_latch_changes_nothing_due, a_lone_member_stands_on_ground, what_is_due_may_be_recorded,
+    what_is_due_stands_on_ground, what_is_known_is_recorded, what_is_recorded_is_known,
 };
 
 /// What the laws below take from those of the votes of a round.
