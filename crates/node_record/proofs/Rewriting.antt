@@ -1,7 +1,6 @@
 -- A rewrite of a record, and what a crash leaves of it.
-use Rattle.std.proofs.Common.{◌≡◌, ◌<◌, ◌-◌, ◌^◌, ◌∙◌, ◌⊎◌, inl, inr, ⊎_elim, ℕ, Bool, true, false, List, Option, Some, None, refl, ap, subst, sym, map, arith}
+use Rattle.std.proofs.Common.{◌≡◌, ◌<◌, ◌-◌, ◌^◌, ◌∙◌, ◌⊎◌, inl, inr, ⊎_elim, ℕ, Bool, true, false, List, Option, Some, None, refl, ap, sym, map, arith, ltb-true}
 use Rattle.std.specs.Prelude.{if◌then◌else◌, option_map}
-use Rattle.std.proofs.lemmas.Bool.Decides.{nat_tests}
 use Rattle.messages_certificates.specs.declared.artifact.Artifact.{Artifact}
 use Rattle.messages_certificates.specs.ProposalCertificate.{Finalization}
 use Rattle.journal_single.specs.declared.disk.Disk as disk
@@ -24,7 +23,8 @@ module _ {M K : Type 0} where
   may-further (books.One journal) may last = absurd (cc may)
   may-further (books.Two pair) may last =
       let is : pair.generation ≡ 2 ^ 32 - 1 = last refl in
-      absurd (grind (arith, nat_tests, may, is))
+      let below : pair.generation < 2 ^ 32 - 1 = ltb-true pair.generation (2 ^ 32 - 1) may in
+      omega (arith, is, below)
 
 module _ {S D P G C : Type 0} (xs : List (Artifact S D P G C)) where
   -- the view that is told
