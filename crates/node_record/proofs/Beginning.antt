@@ -64,13 +64,14 @@ module _ {S D P G C : Type 0} where
   -- where a record has a last finalized view, it has the finalization
   last-there : (xs : List (Artifact S D P G C)) (view : ℕ) → 0 < view → last_finalized (entries xs) ≡ view → finalization_in xs view ≡ None → ⊥
   last-there [] view some is none = absurd (omega (arith, some, is))
-  last-there (artifact.Finalization d ∷ xs) view some is none = go (d.proposal.round.view == view) refl none
+  last-there (artifact.Finalization d ∷ xs) view some is none = go (d.proposal.round.view == view) refl none (λ rest gone. last-there xs view some rest gone)
     where
-      go : (b : Bool) → (d.proposal.round.view == view) ≡ b → (if b then Some d else finalization_in xs view) ≡ None → ⊥
-      go true same gone = let never : Some d ≡ None = gone in absurd (cc never)
-      go false other gone =
+      go : (b : Bool) → (d.proposal.round.view == view) ≡ b → (if b then Some d else finalization_in xs view) ≡ None → (last_finalized (entries xs) ≡ view → finalization_in xs view ≡ None → ⊥) → ⊥
+      go true same gone later = let never : Some d ≡ None = gone in absurd (cc never)
+      go false other gone later =
           let apart : d.proposal.round.view ≡ view → ⊥ = grind (arith, nat_tests, other) in
-          last-there xs view some (omega (arith, is, apart)) gone
+          let rest : last_finalized (entries xs) ≡ view = omega (arith, is, apart) in
+          later rest gone
   last-there (artifact.Notarize v ∷ xs) view some is none = last-there xs view some (omega (arith, is)) none
   last-there (artifact.Notarization c ∷ xs) view some is none = last-there xs view some (omega (arith, is)) none
   last-there (artifact.Certification round ok ∷ xs) view some is none = last-there xs view some (omega (arith, is)) none
