@@ -32,7 +32,7 @@ module _ {A B : Type 0} where
   some-mapped (Some x) f some = refl
   some-mapped None f some = absurd (cc some)
 
-  some-of-mapped : (o : Option A) (f : A → B) → IsSome (option_map f o) → IsSome o
+  pub some-of-mapped : (o : Option A) (f : A → B) → IsSome (option_map f o) → IsSome o
   some-of-mapped (Some x) f some = refl
   some-of-mapped None f some = absurd (cc some)
 
@@ -46,7 +46,7 @@ module _ {A : Type 0} where
   none-some (Some x) none some = cc none
   none-some None none some = cc some
 
-  some-or : (o : Option A) (x : A) → IsSome (option_or o (Some x))
+  pub some-or : (o : Option A) (x : A) → IsSome (option_or o (Some x))
   some-or (Some y) x = refl
   some-or None x = refl
 

@@ -26,7 +26,7 @@ use Rattle.simplex_member.specs.Member.{AreOpening, AreStep, Goes, IsOpened, IsP
 use Rattle.simplex_member.specs.First.{IsFirst}
 use Rattle.simplex_member.specs.Packet.{Formats}
 use Rattle.simplex_member.specs.Point.{Point, AreActs, Began, Opened, History}
-use Rattle.simplex_member.specs.Recorded.{record_of}
+use Rattle.simplex_member.specs.Recorded.{kept_of}
 use Rattle.simplex_member.specs.Refusals.{tests}
 use Rattle.simplex_member.specs.Setup.{Setup}
 use Rattle.node_core.specs.GoingThrough as reading
@@ -90,12 +90,12 @@ module _ {S D P G C : Type 0} (g : Ghosts S D P G C) (f : Formats S D P G C) (s 
 module _ {S L D P G C K : Type 0} (g : Ghosts S D P G C) (e : elector.Ghosts L S D P G C) (k : disk.Ghosts K) (f : Formats S D P G C) (s : Setup S D C) (h mid : History S D P G C) (event : Event D) where
   -- behind an event that was refused nothing is due
   pub refused_goes_on : (node : Core S L D K P G C) (refused : Option Refusal) (actions : Vec (Action S D P G C) Global) → IsSome refused → StepsAtOnce g f s h event (record { refused = refused; actions = actions }) mid → CoreKeeps g e k f s node mid
-      → (k.keeps → LeaveBook k (book_of node) (book_of node) (λ read. read ≡ map f.artifact (record_of mid)))
+      → (k.keeps → LeaveBook k (book_of node) (book_of node) (λ read. read ≡ map f.artifact (kept_of s.voter.length mid)))
       → GoesOn g e k f s node node h mid event (Ok (record { refused = refused; actions = actions }))
   refused_goes_on node None actions is steps keeps rests = absurd (false≢true is)
   refused_goes_on node (Some r) actions is steps keeps rests = record {
     ok = (h, (steps.0, (refl, steps.1.1)), subst (λ (m : History S D P G C). CoreKeeps g e k f s node m) steps.1.0 keeps);
-    any_moment = λ it. book_weaker k (λ read. read ≡ map f.artifact (record_of mid)) (IsReached g f s h event) (λ read is. inl (is ∙ ap (λ (m : History S D P G C). map f.artifact (record_of m)) steps.1.0)) (book_of node) (book_of node) (rests it);
+    any_moment = λ it. book_weaker k (λ read. read ≡ map f.artifact (kept_of s.voter.length mid)) (IsReached g f s h event) (λ read is. inl (is ∙ ap (λ (m : History S D P G C). map f.artifact (kept_of s.voter.length m)) steps.1.0)) (book_of node) (book_of node) (rests it);
   }
 
   module _ (old new : Core S L D K P G C) (refused : Option Refusal) (actions : Vec (Action S D P G C) Global) where

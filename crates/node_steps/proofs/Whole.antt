@@ -40,7 +40,7 @@ module _ {S L D P G C K : Type 0} (g : Ghosts S D P G C) (e : elector.Ghosts L S
         voter = begun.stand.voter;
         votes = begun.stand.votes;
         repair = begun.stand.repair;
-        ledger = subst (λ (xs : List (Artifact S D P G C)). KeepsRecord k f.artifact (owner_of s) ledger xs) (sym begun.whole) keeps;
+        ledger = subst (λ (xs : List (Artifact S D P G C)). KeepsRecord k f.artifact (owner_of s) ledger xs) (sym begun.kept) keeps;
         tables = begun.stand.tables (finalized_of s begun.end);
       };
     });

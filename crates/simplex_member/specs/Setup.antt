@@ -1,5 +1,5 @@
 -- What stays the same through an opening of a member's node.
-use Rattle.std.specs.Prelude.{◌≡◌, ◌<◌, ◌+◌, ◌^◌, ℕ, Bool, false, max, unwrap_or, Option, Some, None, IfSome}
+use Rattle.std.specs.Prelude.{◌≡◌, ◌<◌, ◌+◌, ◌^◌, ℕ, Bool, max, unwrap_or, Option, Some, None, IfSome}
 use Rattle.types_core.specs.declared.scheme.Scheme.{Ghosts}
 use Rattle.types_terms.specs.declared.elector.Elector as elector
 use Rattle.simplex_record.specs.declared.owner.Owner.{Owner}
@@ -24,8 +24,6 @@ pub record Setup (S D C : Type 0) : Type 0 where
   pub forward : ForwardPolicy
   -- votes are kept in full for good
   pub tracks : Bool
-  -- its record may be rewritten
-  pub rewrites : Bool
 
 -- for how long a leader may be silent
 abbrev pub silence_of : SkipPolicy → Option ℕ
@@ -84,5 +82,4 @@ module _ {S L D P G C : Type 0} where
     silence = silence_of config.skip;
     forward = config.forward;
     tracks = config.track_historical_votes;
-    rewrites = false;
   }

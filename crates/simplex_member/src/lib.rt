@@ -25,9 +25,10 @@ pub use laws::{
     packets_are_in_grammar, packets_are_read_back, parents_lie_from_the_floor,
     proposals_lie_in_their_views, records_grow, records_stand_on_ground, records_stay_lawful,
     repair_and_voter_finalize_alike, reported_certificates_certify, reports_are_honest,
-    requests_are_tracked, rewrites_are_so, runs_are_stretches, steps_raise_little,
-    views_never_fall, voters_are_orderly, voters_tell_the_record, votes_are_lawful,
-    votes_are_recorded, what_is_kept_tells_all, what_is_made_may_be_recorded,
+    requests_are_tracked, rewrites_are_so, rewrites_leave_nothing_due, runs_are_stretches,
+    steps_raise_little, views_never_fall, voters_are_orderly, voters_tell_the_record,
+    votes_are_lawful, votes_are_recorded, what_is_kept_stands_for_all, what_is_kept_tells_all,
+    what_is_made_may_be_recorded,
 };
 pub use refusal::Refusal;
 pub use sent::{none_stays_unsent, sent_votes_were_due};

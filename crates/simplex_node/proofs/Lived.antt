@@ -22,14 +22,12 @@ use Rattle.simplex_member.specs.declared.fault.OpenFault.TheVariants as open_fau
 use Rattle.simplex_member.specs.declared.refusal.Refusal.{Refusal}
 use Rattle.simplex_member.specs.Deeds.{AreActions}
 use Rattle.simplex_member.specs.First.{IsFirst}
-use Rattle.simplex_member.specs.Allowed.{AreAllowed}
-use Rattle.simplex_member.specs.Floors.{AllIsKept}
-use Rattle.simplex_member.specs.Lives.{Appends, Broken, Course, Founds, IsCut, Lasting, Life, Lived, Lives, Refuses, Rewrites, Turn, Turns, Went, turn_events}
+use Rattle.simplex_member.specs.Lives.{Appends, Broken, Course, Founds, Lasting, Life, Lived, Lives, Refuses, Turn, Turns, Went, turn_events}
 use Rattle.simplex_member.specs.Member as whole
 use Rattle.simplex_member.specs.Member.{Goes, AreActionsOf, IsReached, Run, Steps, Takes, after}
 use Rattle.simplex_member.specs.Packet.{Formats}
-use Rattle.simplex_member.specs.Point.{Point, Rewrote, History}
-use Rattle.simplex_member.specs.Recorded.{fresh_of, kept_of, record_of}
+use Rattle.simplex_member.specs.Point.{Point, History}
+use Rattle.simplex_member.specs.Recorded.{fresh_of, kept_of}
 use Rattle.simplex_member.specs.Refusals.{refused_deeds, tests}
 use Rattle.simplex_member.specs.Setup.{IsOfOneMember, Setup, owner_of}
 use Rattle.simplex_record.specs.declared.owner.Owner.{Owner}
@@ -63,28 +61,6 @@ module _ {S D P G C : Type 0} (g : Ghosts S D P G C) (f : Formats S D P G C) whe
   pub none-founded : (course : Course S D P G C) (found : List (Artifact S D P G C)) → Appends g f course None found []
   none-founded (Broken now points) found = inl refl
   none-founded (Lasting now points turns cut) found = refl
-
-  -- ---- where a life leads each point was allowed
-
-  module _ (s : Setup S D C) where
-    goes-allowed : (points : List (Point S D P G C)) (h end : History S D P G C) → AreAllowed g f s h → Goes g f s h points end → AreAllowed g f s end
-    goes-allowed [] h end all is = subst (λ (k : History S D P G C). AreAllowed g f s k) (sym is) all
-    goes-allowed (p ∷ points) h end all goes = goes-allowed points (p ∷ h) end (goes.0, all) goes.1
-
-    turns-allowed : (turns : List (Turn S D P G C)) (h end : History S D P G C) → AreAllowed g f s h → Turns g f s h turns end → AreAllowed g f s end
-    turns-allowed [] h end all is = subst (λ (k : History S D P G C). AreAllowed g f s k) (sym is) all
-    turns-allowed (Refuses e r ∷ turns) h end all turned = turns-allowed turns h end all turned.1
-    turns-allowed (Went e points ∷ turns) h end all turned = turns-allowed turns turned.0 end (goes-allowed points h turned.0 all turned.2.goes) turned.3
-    turns-allowed (Rewrites c ∷ turns) h end all turned = turns-allowed turns (Rewrote c ∷ h) end (turned.0.allowed, all) turned.1
-
-    cut-allowed : (cut : Option (Event D × List (Point S D P G C))) (h end : History S D P G C) → AreAllowed g f s h → IsCut g f s h cut end → AreAllowed g f s end
-    cut-allowed None h end all is = subst (λ (k : History S D P G C). AreAllowed g f s k) (sym is) all
-    cut-allowed (Some c) h end all is = goes-allowed c.1 h end all is.1
-
-    pub lived-allowed : (found : List (Artifact S D P G C)) (course : Course S D P G C) (end : History S D P G C) → Lived g f s found course end → AreAllowed g f s end
-    lived-allowed found (Broken now points) end lived = goes-allowed points [] end tt lived.1
-    lived-allowed found (Lasting now points turns cut) end lived =
-        cut-allowed cut lived.1 end (turns-allowed turns lived.0 lived.1 (goes-allowed points [] lived.0 tt lived.3.goes) lived.4) lived.5
 
   module _ (s : Setup S D C) where
     -- where points lead
@@ -136,7 +112,7 @@ module _ {S D P G C : Type 0} (g : Ghosts S D P G C) (f : Formats S D P G C) whe
 
     -- all events were answered
     pub turns-whole : (h : History S D P G C) (events : List (Event D)) (replies : List (Reply S D P G C)) (end : History S D P G C) (fault : Option NodeFault) (image : List ℕ)
-        → Run g f s h events replies end → Reads image (map f.artifact (record_of end)) → IsLeftByTurns g f s h events replies fault image
+        → Run g f s h events replies end → Reads image (map f.artifact (kept_of s.voter.length end)) → IsLeftByTurns g f s h events replies fault image
     turns-whole h events replies end fault image run reads =
         let t = run-turns h events replies end run in
         record {
@@ -154,7 +130,7 @@ module _ {S D P G C : Type 0} (g : Ghosts S D P G C) (f : Formats S D P G C) whe
         }
 
     -- none was
-    pub turns-none : (h : History S D P G C) (events : List (Event D)) (why : NodeFault) (image : List ℕ) → Reads image (map f.artifact (record_of h)) → IsLeftByTurns g f s h events [] (Some why) image
+    pub turns-none : (h : History S D P G C) (events : List (Event D)) (why : NodeFault) (image : List ℕ) → Reads image (map f.artifact (kept_of s.voter.length h)) → IsLeftByTurns g f s h events [] (Some why) image
     turns-none h events why image reads = record {
       turns = [];
       last = h;
@@ -316,9 +292,9 @@ module _ {S L D P G C : Type 0} (g : Ghosts S D P G C) (e : elector.Ghosts L S D
 
     -- one life more, which rewrites nothing
     pub left-more : (answer : Option (Answered S D P G C)) (seen image : List ℕ) (is : Left before seen) (course : Course S D P G C) (end : History S D P G C)
-        → AllIsKept g f t → IsLifeOf g e f s.me o (life_by course) → Gives g e f s.me o answer (life_by course)
-        → Lived g f t is.left course end → Reads image (map f.artifact (record_of end)) → Left (before ++ trial o answer ∷ []) image
-    left-more answer seen image is course end all_kept life gives lived reads = record {
+        → IsLifeOf g e f s.me o (life_by course) → Gives g e f s.me o answer (life_by course)
+        → Lived g f t is.left course end → Reads image (map f.artifact (kept_of t.voter.length end)) → Left (before ++ trial o answer ∷ []) image
+    left-more answer seen image is course end life gives lived reads = record {
       lives = is.lives ++ life_by course ∷ [];
       all = is.all ++ ([] ++ fresh_of end);
       left = kept_of t.voter.length end;
@@ -326,14 +302,13 @@ module _ {S L D P G C : Type 0} (g : Ghosts S D P G C) (e : elector.Ghosts L S D
       lived = lives-on g f s [] [] is.lives is.all is.left (life_by course) end is.lived
           (record { appends = none-founded g f course is.left; readable = λ y here. absurd (Contains-nil y here) })
           (subst (λ (xs : List (Artifact S D P G C)). Lived g f t xs course end) (sym (append-nil is.left)) lived) one;
-      reads = subst (λ (xs : List (Artifact S D P G C)). Reads image (map f.artifact xs)) (sym (all_kept end (lived-allowed g f t is.left course end lived) refl)) reads;
+      reads = reads;
     }
 
     module _ {K : Type 0} (k : disk.Ghosts K) (Readable : Artifact S D P G C → Type 0) (on : K) (keeps : k.keeps)
         (one_record : (image : List ℕ) (bodies others : List (List ℕ)) → Reads image bodies → Reads image others → bodies ≡ others)
         (found_is : (lives : List (Life S D P G C)) (all left found : List (Artifact S D P G C)) (image : List ℕ) → Lives g f s [] [] lives all left → Reads image (map f.artifact left)
         → All Readable found → Reads image (map f.artifact found) → found ≡ left)
-        (all_kept : AllIsKept g f t)
         (start : MayLeaveOnly (k.calls on) (Left before)) (seen : MayLeave (k.calls on) (k.seen on)) where
       -- what was left at the start
       pub at-start : Left before (k.seen on)
@@ -357,7 +332,7 @@ module _ {S L D P G C : Type 0} (g : Ghosts S D P G C) (e : elector.Ghosts L S D
             lived = was.lived;
             reads = subst (λ (bodies : List (List ℕ)). Reads image bodies) (one_record before-image read (map f.artifact was.left) reads_before was.reads) reads;
           })
-      left-open answer begins gives image (read, reads, inr (found, are, opened)) = left-more answer (k.seen on) image at-start (Broken o.now opened.0) opened.1 all_kept
+      left-open answer begins gives image (read, reads, inr (found, are, opened)) = left-more answer (k.seen on) image at-start (Broken o.now opened.0) opened.1
           (record { setup = refl; brought = refl; now = refl; left = o.events.items; events = refl }) (gives opened.0)
           (subst (λ (xs : List (Artifact S D P G C)). Lived g f t xs (Broken o.now opened.0) opened.1) (found-left found are) (opened.2, opened.3))
           (subst (λ (bodies : List (List ℕ)). Reads image bodies) opened.4 reads)
@@ -368,7 +343,7 @@ module _ {S L D P G C : Type 0} (g : Ghosts S D P G C) (e : elector.Ghosts L S D
           → Gives g e f s.me o answer (life_by (Lasting o.now opens.points is.turns is.cut))
           → Left (before ++ trial o answer ∷ []) image
       left-turned answer found first mid replies fault are opens image is gives =
-          left-more answer (k.seen on) image at-start (Lasting o.now opens.points is.turns is.cut) is.end all_kept
+          left-more answer (k.seen on) image at-start (Lasting o.now opens.points is.turns is.cut) is.end
           (record { setup = refl; brought = refl; now = refl; left = is.left; events = is.split }) gives
           (subst (λ (xs : List (Artifact S D P G C)). Lived g f t xs (Lasting o.now opens.points is.turns is.cut) is.end) (found-left found are)
           (mid, is.last, opens.opening, opens.rests, is.turned, is.is_cut))

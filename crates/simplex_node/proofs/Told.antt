@@ -28,13 +28,12 @@ use Rattle.simplex_member.specs.declared.fault.NodeFault.TheVariants as node_fau
 use Rattle.simplex_member.specs.declared.fault.OpenFault.{OpenFault}
 use Rattle.simplex_member.specs.declared.fault.OpenFault.TheVariants as open_fault
 use Rattle.simplex_member.specs.First.{IsFirst}
-use Rattle.simplex_member.specs.Floors.{AllIsKept}
 use Rattle.simplex_member.specs.Laws.{LeftIsFound, NeverContradicts, NeverForeign}
 use Rattle.simplex_member.specs.Lives.{Lasting}
-use Rattle.simplex_member.specs.Member.{IsReached, ReadsAs}
+use Rattle.simplex_member.specs.Member.{IsReached, ReadsAsKept}
 use Rattle.simplex_member.specs.Packet.{Formats}
 use Rattle.simplex_member.specs.Point.{History}
-use Rattle.simplex_member.specs.Recorded.{record_of}
+use Rattle.simplex_member.specs.Recorded.{kept_of}
 use Rattle.simplex_member.specs.Setup.{IsOfOneMember, Setup, owner_of}
 use Rattle.node_record.specs.Ledger.{IsContradiction}
 use Rattle.node_steps.specs.declared.node.Node.{Node}
@@ -51,7 +50,7 @@ use Rattle.simplex_node.proofs.Lived.{fails, leaves-on, left-none, left-open, le
 
 module _ {S L D P G C K : Type 0} (g : Ghosts S D P G C) (e : elector.Ghosts L S D P G C) (k : disk.Ghosts K) (formats : ℕ → Formats S D P G C) (Readable : Artifact S D P G C → Type 0)
     (one_record : (image : List ℕ) (bodies others : List (List ℕ)) → Reads image bodies → Reads image others → bodies ≡ others)
-    (found_is : (n : ℕ) → n ≤ 65535 → (s : Setup S D C) → LeftIsFound g (formats n) s Readable) (all_kept : (n : ℕ) (s : Setup S D C) → AllIsKept g (formats n) s)
+    (found_is : (n : ℕ) → n ≤ 65535 → (s : Setup S D C) → LeftIsFound g (formats n) s Readable)
     (on new : K) (o : Opening S L D) (seen : k.keeps → MayLeave (k.calls on) (k.seen on)) where
   abbrev f : Formats S D P G C
   f = formats (g.size o.scheme.value)
@@ -82,11 +81,11 @@ module _ {S L D P G C K : Type 0} (g : Ghosts S D P G C) (e : elector.Ghosts L S
         (λ s before own small keeps one start image left.
         let is = same-index {P = λ index. IsOpenAndSettled g e k f (setup_by g e index o) Readable (One on) o.now node first} opened own in
         let turns = ran (setup_by g e s.me o) is.end is.keeps keeps image left in
-        left-turned g e f s before o one k Readable on keeps one_record (found_is (g.size o.scheme.value) small s) (all_kept (g.size o.scheme.value) (setup_by g e s.me o)) start (seen keeps) (Some kept) is.found first is.end answers.replies.items
+        left-turned g e f s before o one k Readable on keeps one_record (found_is (g.size o.scheme.value) small s) start (seen keeps) (Some kept) is.found first is.end answers.replies.items
         answers.fault is.are_found is.opens image turns
         (subst (λ (a : Answered S D P G C). Gives g e f s.me o (Some a) (record { setup = setup_by g e s.me o; brought = None; founded = []; course = Lasting o.now is.opens.points turns.turns turns.cut })) (sym told)
         (subst (λ (l : List (Action S D P G C)). Tells g f (setup_by g e s.me o) o.events.items l answers.replies.items answers.fault (Lasting o.now is.opens.points turns.turns turns.cut)) (sym same)
-        (left-told g e f s before o one k Readable on keeps one_record (found_is (g.size o.scheme.value) small s) (all_kept (g.size o.scheme.value) (setup_by g e s.me o)) start (seen keeps) is.found first is.end answers.replies.items answers.fault is.opens image turns))))
+        (left-told g e f s before o one k Readable on keeps one_record (found_is (g.size o.scheme.value) small s) start (seen keeps) is.found first is.end answers.replies.items answers.fault is.opens image turns))))
 
     pub opened-left : (mid : K) → disks_of node ≡ One mid
         → ((index : ℕ) → g.own o.scheme.value ≡ Some index → k.keeps → Leave k (One on) (disks_of node) (MayBeLeftOpen g e k f (setup_by g e index o) Readable (One on) o.now))
@@ -98,9 +97,9 @@ module _ {S L D P G C K : Type 0} (g : Ghosts S D P G C) (e : elector.Ghosts L S
         let is = same-index {P = λ index. IsOpenAndSettled g e k f (setup_by g e index o) Readable (One on) o.now node first} opened own in
         leaves-on (IsLeftByLives g e f s (before ++ tried (o ∷ []) []))
         (subst (λ (d : Disks K). Leave k (One on) d (MayBeLeftOpen g e k f (setup_by g e s.me o) Readable (One on) o.now)) over (opening s.me own keeps))
-        (left-open g e f s before o one k Readable on keeps one_record (found_is (g.size o.scheme.value) small s) (all_kept (g.size o.scheme.value) (setup_by g e s.me o)) start (seen keeps) None tt (λ points. tt))
+        (left-open g e f s before o one k Readable on keeps one_record (found_is (g.size o.scheme.value) small s) start (seen keeps) None tt (λ points. tt))
         (ran (setup_by g e s.me o) is.end is.keeps mid over keeps)
-        (λ image passed. left-turned g e f s before o one k Readable on keeps one_record (found_is (g.size o.scheme.value) small s) (all_kept (g.size o.scheme.value) (setup_by g e s.me o)) start (seen keeps) None is.found first is.end passed.2.replies
+        (λ image passed. left-turned g e f s before o one k Readable on keeps one_record (found_is (g.size o.scheme.value) small s) start (seen keeps) None is.found first is.end passed.2.replies
         (Some node_fault.Memory) is.are_found is.opens image (turns-passed g f (setup_by g e s.me o) is.end o.events.items image passed) tt))
 
   -- ---- it failed
@@ -112,7 +111,7 @@ module _ {S L D P G C K : Type 0} (g : Ghosts S D P G C) (e : elector.Ghosts L S
         over-lives (λ Left. LeavesOnly (k.calls on) (k.calls new) (Left (tried (o ∷ []) [])))
         (λ s before own small keeps one start.
         weaker (IsLeftByLives g e f s (before ++ tried (o ∷ []) [])) (opening s.me own keeps)
-        (left-open g e f s before o one k Readable on keeps one_record (found_is (g.size o.scheme.value) small s) (all_kept (g.size o.scheme.value) (setup_by g e s.me o)) start (seen keeps) None tt (λ points. tt)))
+        (left-open g e f s before o one k Readable on keeps one_record (found_is (g.size o.scheme.value) small s) start (seen keeps) None tt (λ points. tt)))
 
     pub failed-told : ((n : ℕ) → n ≤ 65535 → (s : Setup S D C) → NeverForeign g (formats n) s Readable) → ((n : ℕ) (s : Setup S D C) → NeverContradicts g (formats n) s)
         → IfSome (early why) (λ x. IsFirst (open_tests g (setup_by g e 0 o) o.config o.now) (Some x) × (One new ≡ One on)) → (early why ≡ None → IsFirst (open_tests g (setup_by g e 0 o) o.config o.now) None)
@@ -123,7 +122,7 @@ module _ {S L D P G C K : Type 0} (g : Ghosts S D P G C) (e : elector.Ghosts L S
     failed-told never lawful told later foreign contradiction =
         over-lives (λ Left. MayLeaveOnly (k.calls new) (Left (tried (o ∷ []) (NotOpened why ∷ []))))
         (λ s before own small keeps one start image left.
-        let so : FailsFor g e f s.me o why = fails g e f s before o one k Readable on keeps one_record (found_is (g.size o.scheme.value) small s) (all_kept (g.size o.scheme.value) (setup_by g e s.me o)) start (seen keeps)
+        let so : FailsFor g e f s.me o why = fails g e f s before o one k Readable on keeps one_record (found_is (g.size o.scheme.value) small s) start (seen keeps)
         (never (g.size o.scheme.value) small s) (lawful (g.size o.scheme.value) s) (One new ≡ One on) why told later foreign (λ position. contradiction position s.me own) in
         by-early s before own small keeps one start image left so (early why) refl)
       where
@@ -131,7 +130,7 @@ module _ {S L D P G C K : Type 0} (g : Ghosts S D P G C) (e : elector.Ghosts L S
             → MayLeaveOnly (k.calls on) (IsLeftByLives g e f s before) → (image : List ℕ) → MayLeave (k.calls new) image → FailsFor g e f s.me o why → (x : Option OpenFault) → early why ≡ x
             → IsLeftByLives g e f s (before ++ tried (o ∷ []) (NotOpened why ∷ [])) image
         by-early s before own small keeps one start image left so None is =
-            left-open g e f s before o one k Readable on keeps one_record (found_is (g.size o.scheme.value) small s) (all_kept (g.size o.scheme.value) (setup_by g e s.me o)) start (seen keeps) (Some (NotOpened why)) so (λ points. (so, is, points, refl))
+            left-open g e f s before o one k Readable on keeps one_record (found_is (g.size o.scheme.value) small s) start (seen keeps) (Some (NotOpened why)) so (λ points. (so, is, points, refl))
             image (at_last (opening s.me own keeps) image left)
         by-early s before own small keeps one start image left so (Some x) is =
             let both : One new ≡ One on = (subst (λ (y : Option OpenFault). IfSome y (λ x. IsFirst (open_tests g (setup_by g e 0 o) o.config o.now) (Some x) × (One new ≡ One on))) is told).1 in
@@ -220,9 +219,9 @@ module _ {S L D P G C K : Type 0} (g : Ghosts S D P G C) (e : elector.Ghosts L S
 -- ---- the steps behind an opening
 
 module _ {S L D P G C K : Type 0} (g : Ghosts S D P G C) (e : elector.Ghosts L S D P G C) (k : disk.Ghosts K) (f : Formats S D P G C) (s : Setup S D C) (node : Node S L D K P G C) (new : K)
-    (closed : (h : History S D P G C) → NodeKeeps g e k f s node h → k.keeps → (read : List (List ℕ)) → MayBeRead k (One new) read → ReadsAs g f s read h) (keeps : k.keeps) where
+    (closed : (h : History S D P G C) → NodeKeeps g e k f s node h → k.keeps → (read : List (List ℕ)) → MayBeRead k (One new) read → ReadsAsKept g f s read h) (keeps : k.keeps) where
   -- an image that is left reads as the record
-  reads-closed : (h : History S D P G C) → NodeKeeps g e k f s node h → (image : List ℕ) → MayLeave (k.calls new) image → Reads image (map f.artifact (record_of h))
+  reads-closed : (h : History S D P G C) → NodeKeeps g e k f s node h → (image : List ℕ) → MayLeave (k.calls new) image → Reads image (map f.artifact (kept_of s.voter.length h))
   reads-closed h stands image left = let any = reads_any image in subst (λ (bodies : List (List ℕ)). Reads image bodies) (closed h stands keeps any.0 (image, left, any.1)) any.1
 
   -- by what a run answered
@@ -235,7 +234,7 @@ module _ {S L D P G C K : Type 0} (g : Ghosts S D P G C) (e : elector.Ghosts L S
         any.0,
         any.1,
         left_last k (IsReached g f s fails.runs.end event) (disks_of fails.before) (disks_of node) any.0
-            (book_leaves k (IsReached g f s fails.runs.end event) f.artifact (record_of fails.runs.end) (book_of fails.before) (book_of node) (fails.runs.keeps.core.ledger.journal keeps) (fails.any_moment keeps))
+            (book_leaves k (IsReached g f s fails.runs.end event) f.artifact (kept_of s.voter.length fails.runs.end) (book_of fails.before) (book_of node) (fails.runs.keeps.core.ledger.journal keeps) (fails.any_moment keeps))
             (subst (λ (d : Disks K). MayBeRead k d any.0) (sym is) (image, left, any.1)),
       ))
 

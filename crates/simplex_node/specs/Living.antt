@@ -19,7 +19,7 @@ use Rattle.simplex_member.specs.Lives.{Broken, Course, IsCut, Lasting, Life, Liv
 use Rattle.simplex_member.specs.Member.{AreActionsOf, after}
 use Rattle.simplex_member.specs.Packet.{Formats}
 use Rattle.simplex_member.specs.Point.{History, Point}
-use Rattle.simplex_member.specs.Recorded.{record_of}
+use Rattle.simplex_member.specs.Recorded.{kept_of}
 use Rattle.simplex_member.specs.Refusals.{refused_deeds}
 use Rattle.simplex_member.specs.Setup.{IsOfOneMember, Setup, setup_of}
 use Rattle.node_steps.specs.Opening.{early, open_tests}
@@ -98,7 +98,7 @@ module _ {S D P G C : Type 0} (g : Ghosts S D P G C) (f : Formats S D P G C) (s 
     pub left : List (Event D)
     pub split : events ≡ (turn_events turns ++ option_to_list (option_map (λ c. c.0) cut)) ++ left
     pub whole : fault ≡ None → (cut ≡ None) × (left ≡ [])
-    pub reads : Reads image (map f.artifact (record_of end))
+    pub reads : Reads image (map f.artifact (kept_of s.voter.length end))
 
 module _ {S L D P G C : Type 0} (g : Ghosts S D P G C) (e : elector.Ghosts L S D P G C) where
   -- how an opening sets the member of this index up

@@ -15,7 +15,6 @@ use node_steps::Node;
 use node_wire::Answers;
 use simplex_member::{
     Action, Event, NodeFault, OpenFault, Speaks, never_contradicts, never_foreign,
-    what_is_kept_tells_all,
 };
 use std::alloc::{AllocError, Global};
 use std::rc::Rc;
@@ -106,7 +105,6 @@ fn live_once<S: Scheme<D> + Drop, L: Elector<S, D>, D: Digest, K: Disk>(
     a_disk_reads_as_one_record::<Artifact<S, D>>();
     never_foreign::<S, D>();
     never_contradicts::<S, D>();
-    what_is_kept_tells_all::<S, D>();
     let Opening {
         config,
         scheme,
