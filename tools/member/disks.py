@@ -1,7 +1,7 @@
 """One disk or two: of which the record is read, and what a rewrite writes where.
 
-A disk holds a generation where it begins with 02 and four bytes ff, a number from 1 on in four bytes, and at least one byte more: its
-record stands behind that head. Any other disk is of generation 0, and its record stands at its start.
+Of two a disk holds a generation where it begins with 02 and four bytes ff, a number from 1 on in four bytes, and at least one byte more:
+its record stands behind that head. Any other disk is of generation 0, and its record stands at its start; so does that of a single one.
 """
 MARK, HEAD, LAST = b"\x02\xff\xff\xff\xff", 9, 2**32 - 1
 
@@ -38,7 +38,7 @@ class Disks:
 
     @property
     def generation(self):
-        return generation_of(self.held[self.place])
+        return generation_of(self.held[self.place]) if len(self.held) == 2 else 0
 
     @property
     def head(self):

@@ -10,7 +10,7 @@ from .judging import CONFIG, bytes_of, reset_line
 from .member import rewriting
 from .peers import Peers, spelled
 from .player import Player
-from .record import Record, finalizes, floor_of, founded, kept_record, reach, record, recorded_by, rewritten
+from .record import Record, floor_of, founded, kept_record, reach, record, recorded_by, rewritten
 from .streams import last_wake, setup_of
 from .values import FINALIZATION, FINALIZE, NOTARIZE, Proposal, Reply, Vote
 from .voter import current, last_finalized
