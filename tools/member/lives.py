@@ -219,11 +219,17 @@ def lives(seed, number, count):
     return Lives(pick, setup_of(pick, True), order).go(count)
 
 
+def founded_by_none(seed, number, count):
+    """The same of lives in which no opening brings a finalization, and what is due is done in the fixed order."""
+    pick = random.Random(f"{seed} {number} rewrites")
+    return Lives(pick, setup_of(pick, True), None, brings=False).go(count)
+
+
 def calls(seed, number, count):
-    """The calls of the lives of this number as the node's driver reads them: no opening brings a finalization. A node that crashed is one
-    whose disks are replaced by two that hold what the crash left."""
-    pick, was_cut = random.Random(f"{seed} {number} rewrites"), False
-    for call, answer in Lives(pick, setup_of(pick, True), None, brings=False).go(count):
+    """The calls of these as the node's driver reads them. A node that crashed is one whose disks are replaced by two that hold what the
+    crash left."""
+    was_cut = False
+    for call, answer in founded_by_none(seed, number, count):
         if was_cut:
             yield f"disk {answer}"
         elif not is_cut(answer):
