@@ -1,9 +1,9 @@
 """The driver of the node in Python: a member by its model, in the order of the product's node (tools/member/in_order.py), over disks
 that make the calls of tools/make-journal-script and tools/make-pair-script. It answers each call of crates/run_node but `times`,
-`stream`, `live` and those that are no call."""
+`stream`, `live` and those that are no call; and `floor`, as tools/check-member has it."""
 from member import judging, words
 from member.codec import Reader, artifact_bytes, reply_bytes, whole
-from member.disks import LAST
+from member.disks import LAST, Disks
 from member.in_order import InOrder
 from member.judging import DEVICE, STEP_DEVICE, STEP_FAILED
 from member.member import rewriting
@@ -51,7 +51,19 @@ class Played:
             return "condition"
         return f"fault {STEP_FAILED}" if self.failed else None
 
+    def fault_of_opening(self, now):
+        """Why the member isn't opened at this moment, where no disk fails."""
+        case = judging.Case(self.setup)
+        case.put(Disks(*(it.data for it in self.disks)))
+        return case.fault_of_opening(now)
+
     # ---- the calls
+
+    def call_floor(self, *said):
+        case = judging.Case(self.setup)
+        case.begin_at(" ".join(said))
+        self.setup = case.setup
+        return "ok"
 
     def call_reset(self, kind, *said):
         self.setup = judging.setup_of(" ".join((kind, *said)))
@@ -59,6 +71,9 @@ class Played:
 
     def call_open(self, now):
         self.close()
+        fault = self.fault_of_opening(int(now))
+        if fault is not None:
+            return f"fault {fault}"
         try:
             self.journal = pair.Pair(self.disks) if len(self.disks) == 2 else single.Journal(self.disks[0])
         except FAULTS:
