@@ -64,6 +64,10 @@ impl<S: Scheme<D> + Drop, L: Turns<S, D>, D: Digest, K: Disk> Seat<
         node.step(event)
     }
 
+    fn rewrite(node: &mut Node<S, L, D, K>) -> Result<Option<View>, NodeFault> {
+        node.rewrite()
+    }
+
     fn run(
         alloc: Global,
         node: &mut Node<S, L, D, K>,

@@ -17,8 +17,8 @@ use voter_rules::config::Config;
 
 /// What the calls of a script are made on, whatever the member's scheme, its disk and its node.
 pub trait Answers: Drop {
-    /// A member that is set up so, with an empty disk. A committee that can't be is `condition`.
-    fn new(alloc: Global, setup: Setup) -> Result<Self, Trouble>;
+    /// A member that is set up so, with an empty disk, or with two. A committee that can't be is `condition`.
+    fn new(alloc: Global, setup: Setup, is_pair: bool) -> Result<Self, Trouble>;
 
     /// Makes the call of this name.
     fn answer(&mut self, name: &str, words: &mut Words<'_>, say: &mut Say) -> Result<(), Trouble>;
@@ -61,6 +61,23 @@ where
         match &mut self.disk {
             Some(disk) => Ok(disk),
             None => Err(Trouble::Condition),
+        }
+    }
+
+    /// The second disk, where there is one, and no node is open on it.
+    fn second(&mut self) -> Result<&mut K, Trouble> {
+        match &mut self.second {
+            Some(disk) => Ok(disk),
+            None => Err(Trouble::Condition),
+        }
+    }
+
+    /// The first of the disks, 1, or the second, 2.
+    fn disk_of(&mut self, which: u64) -> Result<&mut K, Trouble> {
+        match which {
+            1 => self.disk(),
+            2 => self.second(),
+            _ => Err(Trouble::Unreadable),
         }
     }
 
@@ -175,6 +192,16 @@ where
         Ok(true)
     }
 
+    /// `rewrite`: the view that the record begins behind then, or `-`.
+    fn rewrite(&mut self, words: &Words<'_>, say: &mut Say) -> Result<(), Trouble> {
+        words.end()?;
+        match T::rewrite(self.node()?) {
+            Ok(Some(view)) => say.view(view),
+            Ok(None) => say.none(),
+            Err(fault) => say_fault(fault, say),
+        }
+    }
+
     /// `stream EVENTS`: the replies, one behind the other, and behind them why that ended before the events did.
     fn stream(&mut self, words: &mut Words<'_>, say: &mut Say) -> Result<(), Trouble> {
         let events = words.bytes(say.alloc)?;
@@ -250,11 +277,16 @@ where
         say.bytes(second.image())
     }
 
-    /// `fuse CALLS`, `fail_at CALLS`: of this name.
+    /// `fuse CALLS`, `fail_at CALLS`, `fuse DISK CALLS`, `fail_at DISK CALLS`: of this name.
     fn fail(&mut self, name: &str, words: &mut Words<'_>, say: &mut Say) -> Result<(), Trouble> {
-        let calls = words.number()?;
+        let number = words.number()?;
+        let (which, calls) = if words.more() {
+            (number, words.number()?)
+        } else {
+            (1, number)
+        };
         words.end()?;
-        let disk = self.disk()?;
+        let disk = self.disk_of(which)?;
         if name == "fuse" {
             disk.fuse(calls);
         } else {
@@ -297,12 +329,18 @@ where
         Reply<S, Sha256Digest>,
     >,
 {
-    fn new(alloc: Global, setup: Setup) -> Result<Self, Trouble> {
+    fn new(alloc: Global, setup: Setup, is_pair: bool) -> Result<Self, Trouble> {
         S::member_of(alloc, setup.members, setup.me, 0)?;
+        let disk = Some(K::holding(alloc, &[])?);
+        let second = if is_pair {
+            Some(K::holding(alloc, &[])?)
+        } else {
+            None
+        };
         Ok(Member {
             setup,
-            disk: Some(K::holding(alloc, &[])?),
-            second: None,
+            disk,
+            second,
             node: None,
             scheme: PhantomData,
             seat: PhantomData,
@@ -315,6 +353,7 @@ where
             "event" => self.event(words, say),
             "times" => self.times(words, say),
             "stream" => self.stream(words, say),
+            "rewrite" => self.rewrite(words, say),
             "live" => self.live(words, say),
             "disk" | "bytes" | "fuse" | "fail_at" => self.hold(name, words, say),
             _ => self.ask(name, words, say),
