@@ -159,34 +159,8 @@ def wrong_readers():
 # ---- the gate
 
 
-@functools.cache
-def minutes():
-    """The table of docs/GATE.md: what each crate's proof took."""
-    return {crate: float(took) for crate, took in re.findall(r"`(\w+)` \| ([\d.]+) \|", read("docs/GATE.md"))}
-
-
-def way_to(crate):
-    """The minutes of the longest way that leads to a crate."""
-    stands = dict(it.split(":", 1) for it in read("crates.txt").split("\n") if ":" in it and it[0] != "#")
-    stands = {name.split()[0]: needs.split() for name, needs in stands.items()}
-
-    @functools.cache
-    def way(crate):
-        return minutes().get(crate, 0) + max((way(it) for it in stands.get(crate, ())), default=0)
-
-    return way(crate)
-
-
-def of_rooms(pattern):
-    return sum(took for crate, took in minutes().items() if re.match(pattern, crate))
-
-
-def of_the_gate(pattern):
-    return float(re.search(pattern, " ".join(read("docs/GATE.md").split()))[1])
-
-
-def by_the_yardstick(took):
-    return round(took * of_the_gate(r"a minute counts \*\*([\d.]+)\*\*"))
+def yardstick():
+    return json.loads(read("tools/gate.json"))["yardstick"]
 
 
 # ---- trials
@@ -291,11 +265,7 @@ RULES = [
     *[Rule(page, r"(\w+) members, two of whom lie", lambda _: members_of_the_run()) for page in ("README.md", "docs/WORLD.md")],
     *exact("README.md", answers_of_readme()),
     # the gate
-    Rule("docs/GATE.md", r"The longest way, (\d+) minutes of a processor, .* to `(\w+)`\.", lambda it: (round(way_to(it[2])), it[2])),
-    Rule("docs/GATE.md", r"By it the gate is \*\*(\d+) in all, (\d+) of it the drivers\*\* of tests, (\d+) a world",
-         lambda _: (by_the_yardstick(of_the_gate(r"took \*\*(\d+)\*\* processor minutes in all")), by_the_yardstick(of_rooms("run_|test_")),
-                    by_the_yardstick(of_rooms("(?:simplex_)?world")))),
-    Rule("docs/GATE.md", r"the (\w+) kept edits take", lambda _: len(files(r"crates/\w+/must-fail/.*\.edit"))),
+    Rule("docs/GATE.md", r"so a minute counts \*\*([\d.]+)\*\*", lambda _: yardstick()),
     Rule("docs/GATE.md", r"The prover refuses (\d+) kept edits", lambda _: len(files(r"crates/\w+/must-fail/.*\.edit"))),
     Rule("docs/GATE.md", r"(\d+) other wrong bodies stand", lambda _: len(files(r"wrong-bodies/.*\.edit"))),
     # embedding

@@ -53,7 +53,7 @@ def setup_of(given):
         number["optimistic-views"], number["stall-timeout"] or None, number["retention"], number["leader-timeout"],
         number["certification-timeout"], number["retry-timeout"], number["skip-timeout"] if of["skips"] == "true" else None,
         number.get("skip-budget"), text["forwarding"], of["historical-votes"] == "true", True, bytes.fromhex(text["genesis"]),
-        order_of(number["members"], seed),
+        order=order_of(number["members"], seed),
     )
 
 

@@ -160,6 +160,13 @@ static void test_settings(void) {
     settings.version++;
     WANT(voumlis_proved_settings_check(&settings, settings.base, 7, settings.base, 0, &found), VOUMLIS_VERSION);
 #undef WANT_NONE
+    /* A committee below four bears no fault, and passes. */
+    for (uint16_t members = 1; members <= 8; members++) {
+        settings = voumlis_settings_of(members, 0);
+        WANT(voumlis_settings_check(&settings, &found), VOUMLIS_DONE);
+        want(__LINE__, voumlis_faults(members), members < 4 ? 0 : members < 7 ? 1 : 2);
+    }
+    want(__LINE__, voumlis_faults(0), 0);
     WANT(voumlis_settings_check(NULL, &found), VOUMLIS_ARGUMENT);
     WANT(voumlis_settings_check(&settings, NULL), VOUMLIS_ARGUMENT);
 }

@@ -326,9 +326,13 @@ static inline uint32_t voumlis_sets(const struct voumlis_settings *settings, con
     return VOUMLIS_DONE;
 }
 
-/* Whether a node can be opened with these settings. DONE. SETTINGS: the place is the number of the first fault. VERSION: they
- * are of another size or version. ARGUMENT: `skips`, `forwarding`, `shuffled` or `historical_votes` is none of its values.
- * MEMORY. */
+/* How many of so many members may be down, lie or stay silent while the others finalize on. Below four none: whoever sets up
+ * such a committee should know it, and that one of a single member may stand for good behind one bad verdict. */
+static inline uint32_t voumlis_faults(uint32_t members) { return members == 0 ? 0 : (members - 1) / 3; }
+
+/* Whether a node can be opened with these settings, also of a committee that bears no fault. DONE. SETTINGS: the place is the
+ * number of the first fault. VERSION: they are of another size or version. ARGUMENT: `skips`, `forwarding`, `shuffled` or
+ * `historical_votes` is none of its values. MEMORY. */
 static inline uint32_t voumlis_settings_check(const struct voumlis_settings *settings, struct voumlis_found *found) {
     const uint8_t *base, *seed;
     uint32_t status = voumlis_sets(settings, &base, &seed, found);

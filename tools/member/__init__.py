@@ -19,8 +19,10 @@ Nothing here is taken from the node's code. Read in this order:
     deeds            what a point hands out
     acts             which acts may come next
     doings           what acts do, and how much of it there can be behind one event
-    member           steps and openings: whether a reply is allowed; what a crash may leave
+    member           steps, openings and rewrites: whether a reply is allowed; what a crash may leave
+    disks            one disk or two: which is read, and what a rewrite writes where
     player           a node that does what is due, in an order that a seed picks
     words, judging   cases as text, and what the model says of them
     peers            what comes to a node in generated scripts
+    lives            generated lives over two disks, and the laws on all that is ever recorded
 """

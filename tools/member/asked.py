@@ -1,7 +1,7 @@
 """What a node asked for since its opening, and what of it stands."""
 from .history import Asks, AsksBuild, AsksCertify, AsksVerify, Built, Checked, GivesBack, Heard, LeavesBehind, latest, opened_at, over
 from .positions import MOST
-from .record import is_judged
+from .record import is_kept_judged
 from .repair import is_settled
 from .voter import last_finalized
 
@@ -47,7 +47,7 @@ def certify_asked(asked, here):
 
 def is_awaited(h, view):
     """The request for a verdict stands: it was asked for, the view lies above the last finalized one, no verdict is there."""
-    return view in certify_asked(h) and view > last_finalized(h) and not is_judged(h, view)
+    return view in certify_asked(h) and view > last_finalized(h) and not is_kept_judged(h, view)
 
 
 @over(frozenset())

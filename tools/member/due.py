@@ -1,7 +1,7 @@
 """Which votes of a member are due, when its current view is given up, and what it is to ask for."""
 from .history import kept, latest
 from .positions import is_retained
-from .record import floor_of, record
+from .record import floor_of, kept_record
 from .values import NOTARIZATION, NULLIFICATION
 from .voter import (
     INACTIVITY, at, current, explicit, find_parent, first_uncovered, is_captured, is_in_window, is_invalid_parent, is_span, is_steady,
@@ -27,7 +27,7 @@ def notarize_is_due(h, view):
         and not told.has_notarized
         and not told.has_nullified
         and is_retained(last_finalized(h), h.setup.retention, view)
-        and floor_of(record(h)) < view
+        and floor_of(kept_record(h)) < view
         and may_speak_of(h, view)
         and (not is_in_window(h, view) or optimistic(h, view - 1) is not None)
         and is_steady(h, view)

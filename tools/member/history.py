@@ -93,6 +93,13 @@ class Judged:
     ok: bool
 
 
+@value
+class Rewrote:
+    """The record was rewritten: it begins with this finalization now. No act of the node's own: it was asked for."""
+
+    certificate: Certificate
+
+
 # ---- acts: of the votes of a view
 
 

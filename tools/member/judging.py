@@ -4,12 +4,15 @@ A case begins with a `reset` line; each line is a call and, behind `=>`, what th
 stand as words (see words.py) or as the hexadecimal digits of their spelling.
 
     reset node SCHEME N ME EPOCH L K STALL RETENTION LEADER CERTIFICATION RETRY SKIP BUDGET FORWARD TRACK HANDOFFS => ok
+    reset pair ..                 => ok      as `reset node ..`, over two disks
         SCHEME is plain or salted, of N members with the base `simplex`; ME the own index, - for none. Terms have L views,
         K of them optimistic; members take turns, a term each. Times are milliseconds: STALL of a term (- for none), LEADER,
         CERTIFICATION, RETRY, SKIP (- where no leader's silence counts). RETENTION views are kept below the last finalized
         one. BUDGET is how many terms may be skipped, - for the number of members. FORWARD is disabled, silent-voters or
         silent-leader. TRACK is 1 where votes are kept in full for good, HANDOFFS where a view may be built before the last
         view of the term before it is decided. Payloads have 32 bytes; view 0 stands for 32 bytes 00
+    floor genesis K               => ok      for 32 bytes of value K from the next opening on
+    floor FINALIZATION            => ok      or each opening brings this finalization, and view 0 has no payload
     found ARTIFACT , ARTIFACT ..  => ok      the disk holds these (- for none)
     disk HEX                      => ok      the disk holds these bytes
     disk HEX HEX                  => ok      so do two disks, which are opened both
@@ -19,11 +22,14 @@ stand as words (see words.py) or as the hexadecimal digits of their spelling.
                                      events that the bytes spell, one behind the other
     live NOW HEX NOW HEX ..       => of each opening, with ` , ` between two: HEX, its first actions and the replies to the events that
                                      the bytes behind NOW spell, and behind it fault NUMBER where a step failed; or as behind open
+    rewrite                       => NUMBER, the view that the record begins behind then; - where nothing is rewritten: there is one
+                                     disk, or the last generation, nothing is final, or the record begins so; fault NUMBER, or crash
     current_view, last_finalized  => NUMBER
     record                        => the artifacts, as behind found
     bytes                         => HEX     closes the node that is open: the disk holds these bytes; HEX HEX: each of two
     is_failed                     => false, or true behind a fault of a step
     fuse K, fail_at K             => ok      calls of the disk fail from now on, which says nothing of a node
+    fuse DISK K, fail_at DISK K   => ok      so do those of the first of two, or of the second
 
 Before the first `open` of a case the disk is empty, unless a line tells what it holds. A later `open` finds what the node
 recorded; behind a fault or crash a line has to tell what the disk holds (found, disk, or what record answers), and that is
@@ -34,8 +40,9 @@ says something to readers.
 from . import words
 from .acts import point_of
 from .codec import Reader, Unreadable, artifact_bytes, event_bytes, reply_bytes, whole
-from .member import Disagreement, may_be_left, opening, read_record, step
-from .record import bodies, first_refused, record, spelled_record
+from .disks import Disks, bytes_of_word
+from .member import Disagreement, may_be_left, opening, read_record, rewriting, step
+from .record import bodies, first_refused, kept_record, spelled_record
 from .refusals import refusal_of
 from .scheme import SCHEMES
 from .setup import FORWARDS, MOST_OPTIMISTIC, Setup
@@ -44,8 +51,6 @@ from .voter import current, last_finalized
 
 NO_KEY, CONFIG, MOMENT_TOO_LATE, FOREIGN, CONTRADICTION, DEVICE, MEMORY, TOO_MANY_OPTIMISTIC = range(1, 9)
 STEP_MEMORY, STEP_DEVICE, STEP_FAILED = 1, 2, 3
-# What a generation of two disks begins with, and how many bytes stand before its record.
-GENERATION, HEAD = b"\x02\xff\xff\xff\xff", 9
 
 
 class BadCase(Exception):
@@ -61,7 +66,7 @@ def setup_of(text):
     try:
         node, scheme, n, me, epoch, *numbers, forward, track, handoffs = text.split()
         length, optimistic, stall, retention, leader, certification, retry, skip, budget = map(maybe, numbers)
-        if node != "node" or forward not in FORWARDS:
+        if node not in ("node", "pair") or forward not in FORWARDS:
             raise ValueError
         return Setup(
             SCHEMES[scheme](int(n)), maybe(me), int(epoch), length, optimistic, stall, retention, leader, certification, retry,
@@ -89,12 +94,16 @@ def artifacts_of(text, scheme):
 
 
 class Case:
-    """A node as far as its answers tell."""
+    """A node as far as its answers tell. Behind a call that was cut off: what the disk may hold, and what a rewrite was to leave."""
 
-    def __init__(self, setup):
-        self.setup, self.found, self.disk, self.foreign = setup, (), None, None
-        self.h, self.has_failed, self.may_hold, self.told = None, False, None, []
-        self.head, self.beside = b"", None
+    def __init__(self, setup, disks=Disks(b"")):
+        self.setup, self.disks, self.found, self.foreign = setup, disks, (), None
+        self.h, self.has_failed, self.may_hold, self.rewrites = None, False, None, None
+
+    @staticmethod
+    def of(text):
+        """The case that the words behind `reset` begin."""
+        return Case(setup_of(text), Disks(b"", b"") if text.startswith("pair ") else Disks(b""))
 
     # ---- what the disk holds
 
@@ -103,6 +112,7 @@ class Case:
         if self.may_hold is not None and not self.may_hold(artifacts):
             raise Disagreement("the disk may not be left so")
         self.found, self.foreign, self.may_hold, self.h, self.has_failed = artifacts, None, None, None, False
+        self.disks, self.rewrites = self.disks.hold(bytes_of(artifacts)), None
 
     def read(self, data):
         """The artifacts of a disk's bytes, and the place of the first entry that is none, if one isn't."""
@@ -114,30 +124,21 @@ class Case:
                 return tuple(artifacts), place
         return tuple(artifacts), None
 
-    def hold_bytes(self, data):
-        artifacts, foreign = self.read(data)
+    def put(self, disks):
+        """The disk is this, or the two are."""
+        artifacts, foreign = self.read(disks.record)
         self.hold(artifacts)
-        self.foreign = foreign
+        self.disks, self.foreign = disks, None if foreign is None else foreign + len(disks.head)
 
-    def put(self, text):
-        """One disk, or two: of two the second is read where it holds a generation, and the other is never written."""
-        first, *second = (bytes.fromhex(it.replace("-", "")) for it in text.split())
-        self.head, self.beside = b"", second[0] if second else None
-        if second and second[0].startswith(GENERATION) and len(second[0]) > HEAD:
-            self.head, self.beside, first = second[0][:HEAD], first, second[0][HEAD:]
-        self.hold_bytes(first)
-        if self.foreign is not None:
-            self.foreign += len(self.head)
+    def close(self):
+        """No node is open: the disk holds what it kept."""
+        if self.h is not None:
+            self.hold(kept_record(self.h))
 
-    def told_bytes(self, answer):
-        """The bytes of the record that is told, where the disk beside it is as it was."""
-        told = [bytes.fromhex(it.replace("-", "")) for it in answer.split()]
-        if self.beside is not None:
-            read, beside = (told[1], told[0]) if self.head else told
-            if beside != self.beside or not read.startswith(self.head):
-                raise Disagreement("the disk that isn't read, or the head of the one that is, is another")
-            return read[len(self.head) :]
-        return told[0]
+    def cut(self, may_hold, rewrites=None):
+        """A call ends somewhere, and hands nothing out."""
+        self.close()
+        self.may_hold, self.rewrites = may_hold, rewrites
 
     # ---- calls
 
@@ -159,15 +160,14 @@ class Case:
 
     def open(self, text, answer):
         now = int(text)
-        if self.h is not None:
-            self.hold(record(self.h))
+        self.close()
         if self.may_hold is not None:
             raise BadCase("nothing tells what the disk holds")
         fault = self.fault_of_opening(now)
         if answer == "crash" or answer in (f"fault {DEVICE}", f"fault {MEMORY}"):
             if fault is None:
-                self.h, found = None, self.found
-                self.may_hold = lambda left: left == found or may_be_left(read_record(self.setup, now, found)[0], left)
+                setup, found = self.setup, self.found
+                self.cut(lambda left: left == found or may_be_left(read_record(setup, now, found)[0], left))
             return
         if fault is not None or answer.startswith("fault"):
             if answer != f"fault {fault}":
@@ -179,16 +179,44 @@ class Case:
     def event(self, text, answer):
         event = words.event_of(text, self.setup.scheme)
         if self.h is None:
-            right = f"fault {STEP_FAILED}" if self.has_failed else "condition"
-            if answer != right:
-                raise Disagreement(f"a node that {'has failed' if self.has_failed else 'is not open'} answers {right}")
-            return
-        if answer == "crash" or answer in (f"fault {STEP_MEMORY}", f"fault {STEP_DEVICE}"):
-            self.cut(event)
-            return
-        if answer.startswith("fault"):
+            self.refuse(answer)
+        elif is_cut(answer):
+            self.cut_step(event)
+        elif answer.startswith("fault"):
             raise Disagreement("no such fault")
-        self.h = step(self.h, event, words.reply_of(answer, self.setup.scheme))
+        else:
+            self.h = step(self.h, event, words.reply_of(answer, self.setup.scheme))
+
+    def refuse(self, answer):
+        """What is answered where no node is open."""
+        right = f"fault {STEP_FAILED}" if self.has_failed else "condition"
+        if answer != right:
+            raise Disagreement(f"a node that {'has failed' if self.has_failed else 'is not open'} answers {right}")
+
+    def rewrite(self, answer):
+        """The record is rewritten where it may be, onto the other disk."""
+        if self.h is None:
+            self.refuse(answer)
+            return
+        behind = rewriting(self.h) if self.disks.may_rewrite() else None
+        right = "-" if behind is None else str(kept_record(behind)[0].view)
+        if behind is not None and is_cut(answer):
+            old, new = kept_record(self.h), kept_record(behind)
+            self.cut(lambda left: left in (old, new), new)
+            self.has_failed = True
+        elif answer != right:
+            raise Disagreement(f"a rewrite answers {right}")
+        elif behind is not None:
+            self.close()
+            self.h, self.disks = behind, self.disks.rewritten(bytes_of(kept_record(behind)))
+
+    def begin_at(self, text):
+        """What the next openings begin at: a payload of view 0, or a finalization that they bring."""
+        word, _, payload = text.partition(" ")
+        if word == "genesis":
+            self.setup = self.setup.on_genesis(words.payload_of(payload))
+        else:
+            self.setup = self.setup.on_floor(words.artifact_of(text, self.setup.scheme))
 
     def stream(self, text, answer):
         """Each of the events is answered, until a step fails or no event stands at a place."""
@@ -223,9 +251,7 @@ class Case:
             raise Disagreement(f"{len(told)} answers to {len(given) // 2} openings")
         for now, events, life in zip(given[::2], given[1::2], told):
             self.life(now, bytes.fromhex(events.replace("-", "")), life)
-        # Behind the call no node is open.
-        if self.h is not None:
-            self.hold(record(self.h))
+        self.close()
         self.has_failed = False
 
     def life(self, now, data, answer):
@@ -266,12 +292,11 @@ class Case:
                     found.append(Verdict(notarization.on.round, True))
         return tuple(found)
 
-    def cut(self, event):
-        """The step ends somewhere, and hands nothing out."""
+    def cut_step(self, event):
         h = self.h
         begun = h if refusal_of(h, event) else h.then(point_of(h, event))
-        self.may_hold = lambda left: left == record(h) or may_be_left(begun, left)
-        self.h, self.has_failed = None, True
+        self.cut(lambda left: left == kept_record(h) or may_be_left(begun, left))
+        self.has_failed = True
 
     def answer(self, call, answer):
         """Judges an answer; a disagreement leaves the node where it was."""
@@ -279,7 +304,9 @@ class Case:
         if name == "found":
             self.hold(artifacts_of(rest, self.setup.scheme))
         elif name == "disk":
-            self.put(rest)
+            self.put(disks_of(rest))
+        elif name == "floor":
+            self.begin_at(rest)
         elif name == "open":
             self.open(rest, answer)
         elif name == "event":
@@ -288,6 +315,8 @@ class Case:
             self.stream(rest, answer)
         elif name == "live":
             self.live(rest, answer)
+        elif name == "rewrite":
+            self.rewrite(answer)
         elif name in ("current_view", "last_finalized") and self.h is not None:
             right = {"current_view": current, "last_finalized": last_finalized}[name](self.h)
             if answer != str(right):
@@ -295,30 +324,37 @@ class Case:
         elif name == "record":
             self.tell_record(artifacts_of(answer, self.setup.scheme))
         elif name == "bytes":
-            self.tell_bytes(self.told_bytes(answer))
+            self.tell_bytes(disks_of(answer))
         elif name == "is_failed":
             self.tell_whether_failed(answer)
         elif name in ("fuse", "fail_at"):
-            int(rest)
+            list(map(int, rest.split()))
         else:
             raise BadCase(f"no call: {call}")
 
     def tell_record(self, artifacts):
         if self.may_hold is not None:
             self.hold(artifacts)
-        right = self.found if self.h is None else record(self.h)
+        right = self.found if self.h is None else kept_record(self.h)
         if artifacts != right:
             raise Disagreement("it holds " + (" , ".join(words.message(it, self.setup.scheme) for it in right) or "-"))
 
-    def tell_bytes(self, data):
-        """Of a node at rest the bytes are those of its record; else they read as what the disk holds, or may hold."""
+    def tell_bytes(self, told):
+        """Of a node at rest the bytes are those of its record; else they read as what the disk holds, or may hold. A disk that isn't
+        written is as it was."""
         if self.h is not None:
-            if data != bytes_of(record(self.h)):
-                raise Disagreement(f"it holds {bytes_of(record(self.h)).hex()}")
-            self.hold(record(self.h))
-        elif self.may_hold is not None:
-            self.hold_bytes(data)
-        elif self.read(data) != (self.found, None if self.foreign is None else self.foreign - len(self.head)):
+            self.close()
+            if told != self.disks:
+                raise Disagreement(f"it holds {self.disks}")
+            return
+        if not self.disks.may_be_left(told, self.rewrites is not None):
+            raise Disagreement("a disk that isn't written is another, or which of both is read")
+        read = self.read(told.record)
+        if told.place != self.disks.place and read != (self.rewrites, None):
+            raise Disagreement("the other disk is read, and holds another record than the rewrite was to leave")
+        if self.may_hold is not None:
+            self.put(told)
+        elif read != (self.found, None if self.foreign is None else self.foreign - len(told.head)):
             raise Disagreement("it holds something else")
 
     def tell_whether_failed(self, answer):
@@ -354,6 +390,15 @@ class Case:
         return self.told_as(call, answer, lambda it: event_bytes(it).hex(), lambda it: reply_bytes(it).hex(), spelled)
 
 
+def is_cut(answer):
+    """Of a call that ended somewhere: it crashed, the device failed, or memory was wanted."""
+    return answer in ("crash", f"fault {STEP_MEMORY}", f"fault {STEP_DEVICE}")
+
+
+def disks_of(text):
+    return Disks(*map(bytes_of_word, text.split()))
+
+
 def spelled(artifacts):
     """Artifacts as a word of bytes."""
     return ",".join(artifact_bytes(it).hex() for it in artifacts) or "-"
@@ -385,7 +430,7 @@ def in_bytes(lines):
     case = None
     for _, call, answer in lines:
         if call.startswith("reset "):
-            case = Case(setup_of(call.removeprefix("reset ")))
+            case = Case.of(call.removeprefix("reset "))
         if case is not None and not call.startswith("not "):
             yield case.in_bytes(call, answer)
 
@@ -407,7 +452,7 @@ class Judgement:
         call = call.removeprefix("not ")
         if call.startswith("reset "):
             self.cases += 1
-            self.case = Case(setup_of(call.removeprefix("reset ")))
+            self.case = Case.of(call.removeprefix("reset "))
             return
         if self.case is None:
             return

@@ -17,8 +17,8 @@ from .codec import Reader, Unreadable, whole
 from .deeds import deeds
 from .doings import done_too_much
 from .due import give_up_moments, may_latch, nullify_is_due
-from .history import Began, Forwards, Found, History, Opened, latest
-from .record import may_record, record, recorded_by
+from .history import Began, Forwards, Found, History, Opened, Rewrote, latest
+from .record import founded, kept_record, may_record, next_floor, recorded_by
 from .refusals import NAMES, handed_out, refusal_of
 from .values import (
     CERTIFICATE_CHANNEL, FETCH_CHANNEL, NOTARIZE, VOTE_CHANNEL, Block, Build, Certificate, Certify, Finalized, Forward, Report, Send,
@@ -234,9 +234,10 @@ def step(h, event, reply):
 
 
 def read_record(setup, now, found):
-    """The history of an opening up to where its record was gone through, and what it handed out by then."""
+    """The history of an opening up to where its record was gone through, and what it handed out by then. A finalization that it brings
+    and records stands behind what it found, and is gone through with that."""
     h, handed = History(setup).then(Opened(now)), []
-    for artifact in found:
+    for artifact in (*found, *founded(setup, found)):
         h = h.then(found_point(h, artifact))
         handed += deeds(h)
     h = h.then(Began())
@@ -246,6 +247,21 @@ def read_record(setup, now, found):
 def opening(setup, now, found, actions):
     """The history behind an opening that found a lawful record and handed out these actions."""
     return finish(*read_record(setup, now, found), actions)
+
+
+# ---- a rewrite
+
+
+def rewriting(h):
+    """The history behind a rewrite of the record, or None where none is to be done. It hands nothing out, and nothing is due behind it."""
+    certificate = next_floor(kept_record(h))
+    if certificate is None:
+        return None
+    here = h.then(Rewrote(certificate))
+    due = next(due_in_words(here), None) or next(silent_acts(here), None)
+    if due is not None or wake(here) != wake(h):
+        raise Disagreement(f"behind a rewrite the node isn't as it was: {due or wake(here)}")
+    return here
 
 
 # ---- a crash at any moment
@@ -263,7 +279,7 @@ def may_be_left(h, left):
         if not open_ends:
             return False
         h = told(open_ends.pop())
-        so_far = record(h)
+        so_far = kept_record(h)
         if so_far == left:
             return True
         if so_far != left[: len(so_far)]:

@@ -6,7 +6,7 @@ from .acts import (
 )
 from .deeds import deeds
 from .member import read_record, wake
-from .record import record
+from .record import kept_record
 from .refusals import handed_out, refusal_of
 from .values import Reply, Wake
 
@@ -55,4 +55,4 @@ class Player:
         here = self.h if refusal_of(self.h, event) or pick.random() < 0.2 else self.h.then(point_of(self.h, event))
         while pick.random() < 0.7 and (acts := self.due(here)):
             here = here.then(pick.choice(acts))
-        return record(here)
+        return kept_record(here)

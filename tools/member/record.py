@@ -1,5 +1,5 @@
 """What points record, what a record says, and which records are lawful."""
-from .history import Came, Constructs, Found, Judged, Votes, over
+from .history import Came, Constructs, Found, Judged, Rewrote, Votes, over
 from .values import (
     FINALIZATION, FINALIZE, NOTARIZATION, NOTARIZE, NULLIFICATION, NULLIFY, Certificate, Certified, Proposal, Round, Verdict, Vote,
 )
@@ -27,7 +27,16 @@ def certificate_taken(here):
 
 @over(())
 def record(artifacts, here):
-    """The record, oldest first."""
+    """The record, oldest first: what the opening found, and what was recorded since, whatever a rewrite dropped."""
+    artifact = recorded_by(here.point, here.setup.epoch)
+    return artifacts if artifact is None else (*artifacts, artifact)
+
+
+@over(())
+def kept_record(artifacts, here):
+    """What is kept of it since the last rewrite: what the next opening finds."""
+    if isinstance(here.point, Rewrote):
+        return rewritten(here.setup.terms, here.point.certificate, artifacts)
     artifact = recorded_by(here.point, here.setup.epoch)
     return artifacts if artifact is None else (*artifacts, artifact)
 
@@ -42,6 +51,11 @@ def judged(verdicts, here):
 def is_judged(h, view):
     """A verdict on the view is recorded."""
     return (view, True) in judged(h) or (view, False) in judged(h)
+
+
+def is_kept_judged(h, view):
+    """A verdict on the view is recorded, and kept since the last rewrite."""
+    return any(isinstance(it, Verdict) and it.view == view for it in kept_record(h))
 
 
 @over({})
@@ -80,6 +94,30 @@ def finalizes(artifact):
 def floor_of(artifacts):
     """The view that a record begins behind: that of its first artifact, where it is a finalization, or 0."""
     return finalizes(artifacts[0]) if artifacts else 0
+
+
+def reach(terms, artifact):
+    """Up to which view an artifact reaches: a nullification up to the end of its term, all else up to its own."""
+    gives_up = isinstance(artifact, Certificate) and artifact.kind == NULLIFICATION
+    return terms.end(artifact.view) if gives_up else artifact.view
+
+
+def rewritten(terms, certificate, artifacts):
+    """What a rewrite leaves: this finalization, then in order what reaches above its view."""
+    return (certificate, *(it for it in artifacts if reach(terms, it) > certificate.view))
+
+
+def next_floor(artifacts):
+    """The finalization that a rewrite makes a record begin with: that of the last finalized view. None where nothing is final, or the
+    record begins behind that view already."""
+    last = max([0, *map(finalizes, artifacts)])
+    return next((it for it in artifacts if finalizes(it) == last > floor_of(artifacts)), None)
+
+
+def founded(setup, found):
+    """What an opening records of the finalization that it brings, behind what it found: nothing where that is of a view as high."""
+    brought = setup.floor
+    return (brought,) if brought and brought.view > max([0, *map(finalizes, found)]) else ()
 
 
 class Record:

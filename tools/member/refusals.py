@@ -3,7 +3,7 @@ from .asked import builds, checks, is_awaited
 from .codec import Unreadable, whole
 from .history import latest
 from .positions import is_retained
-from .record import certificates, has_parent_below, is_judged
+from .record import certificates, has_parent_below, is_kept_judged
 from .rounds import votes_of
 from .values import Block, BuiltAnswer, CheckedAnswer, Certificate, Moment, Packet, Report, VerdictAnswer, Vote
 from .voter import current, last_finalized
@@ -72,8 +72,8 @@ def tests(h, event):
         case CheckedAnswer(number, _):
             yield "UnknownAnswer", number not in checks(h)
         case VerdictAnswer(view, _):
-            yield "UnknownAnswer", not is_judged(h, view) and not is_awaited(h, view)
-            yield "SecondVerdict", is_judged(h, view)
+            yield "UnknownAnswer", not is_kept_judged(h, view) and not is_awaited(h, view)
+            yield "SecondVerdict", is_kept_judged(h, view)
         case Moment(now):
             yield "MomentFell", now < latest(h)
             yield "MomentTooLate", not h.setup.is_in_time(now)

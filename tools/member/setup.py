@@ -1,5 +1,5 @@
 """What stays the same from an opening on: the committee, the terms, times and policies of one member."""
-from dataclasses import dataclass
+from dataclasses import dataclass, replace
 from functools import cached_property
 
 from .positions import MOST, Terms
@@ -30,7 +30,15 @@ class Setup:
     tracks: bool
     # whether a view may be built on the last view of the term before, while that isn't decided
     handoffs: bool
-    genesis: bytes = bytes(32)
+    # the payload of view 0; or the finalization that an opening brings in its place, and then view 0 has none
+    genesis: bytes | None = bytes(32)
+    floor: object = None
+
+    def on_genesis(self, payload):
+        return replace(self, genesis=payload, floor=None)
+
+    def on_floor(self, finalization):
+        return replace(self, genesis=None, floor=finalization)
 
     @cached_property
     def terms(self):
@@ -72,4 +80,15 @@ class Setup:
             self.retention == 0,
             self.scheme.members > 65_535,
         )
-        return next((number for number, trouble in enumerate(troubles, 1) if trouble), None)
+        return next((number for number, trouble in enumerate((*troubles, *self.floor_troubles()), 1) if trouble), None)
+
+    def floor_troubles(self):
+        """What may be wrong with the finalization that an opening brings."""
+        if self.floor is None:
+            return
+        on = self.floor.on
+        yield on.epoch != self.epoch
+        yield on.view == 0
+        yield not self.terms.has_room(on.view)
+        yield on.parent >= on.view
+        yield not self.scheme.certifies(self.floor)

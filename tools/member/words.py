@@ -171,6 +171,10 @@ class Words:
         return got
 
 
+def payload_of(word):
+    return Words(word, None).payload()
+
+
 def is_hexadecimal(text):
     """One word of bytes, and no name or number of a few digits is meant."""
     return " " not in text and len(text) % 2 == 0 and all(digit in "0123456789abcdef" for digit in text)

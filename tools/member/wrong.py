@@ -1,6 +1,11 @@
-"""Replies with one thing wrong, to see that the checker refuses them: an action left out, one twice, one turned into another."""
+"""Replies with one thing wrong, to see that the checker refuses them: an action left out, one twice, one turned into another. And
+checkers with one rule wrong."""
+from contextlib import contextmanager
 from dataclasses import replace
 
+from . import disks, judging, member, record, refusals
+from .deeds import deeds
+from .history import Came
 from .member import Disagreement, step
 from .values import Block, Build, Certificate, Certified, Certify, Evidence, Finalized, Forward, Reply, Report, Send, Verify, Vote, Wake
 from .words import event_of, reply_of
@@ -82,3 +87,69 @@ class Spoiling:
             self.allowed.append(f"{how}: {call} => {answer}")
         except Disagreement:
             self.refused[how] += 1
+
+
+# ---- judges with one rule on floors and rewrites wrong, to see that some answer is known that refuses each
+
+
+def _forgetting(terms, certificate, artifacts):
+    return tuple(it for it in _RIGHT["rewritten"](terms, certificate, artifacts) if not isinstance(it, Vote))
+
+
+def _keeping_all(terms, certificate, artifacts):
+    return (certificate, *(it for it in artifacts if it != certificate))
+
+
+def _again(artifacts):
+    last = max([0, *map(record.finalizes, artifacts)])
+    return next((it for it in artifacts if last and record.finalizes(it) == last), None)
+
+
+def _sent(setup, now, found):
+    """The opening takes the floor as if it had come: it is sent to all."""
+    h, handed = _RIGHT["read_record"](setup.on_genesis(setup.genesis), now, found)
+    for certificate in record.founded(setup, found):
+        h = h.then(Came(certificate))
+        handed = handed + deeds(h)
+    return h, handed
+
+
+def _first(setup, now, found):
+    """The floor is put in front of what was found."""
+    brought = record.founded(setup, found)
+    return _RIGHT["read_record"](setup.on_genesis(setup.genesis), now, (*brought, *found))
+
+
+def _by_kept(h):
+    return {(it.kind, it.view): it for it in record.kept_record(h) if isinstance(it, Certificate)}
+
+
+_RIGHT = {"rewritten": record.rewritten, "read_record": member.read_record}
+EVERYWHERE = (member, judging)
+WRONG_JUDGES = {
+    "a rewrite forgets an own vote above the floor": ((record,), "rewritten", _forgetting),
+    "a rewrite forgets a nullification that reaches past the floor": ((record,), "reach", lambda terms, it: it.view),
+    "a rewrite forgets nothing": ((record,), "rewritten", _keeping_all),
+    "a record is rewritten that begins so already": ((record, member), "next_floor", _again),
+    "a record on one disk is rewritten, and one of the last generation": ((disks.Disks,), "may_rewrite", lambda it: True),
+    "a floor that an opening brings is sent": (EVERYWHERE, "read_record", _sent),
+    "a floor stands in front of what was found": (EVERYWHERE, "read_record", _first),
+    "a floor below the last finalized view is taken": ((member,), "founded", lambda setup, found: (setup.floor,) if setup.floor else ()),
+    "no floor is taken": ((member,), "founded", lambda setup, found: ()),
+    "a verdict on a dropped view is a second one": ((refusals,), "is_kept_judged", record.is_judged),
+    "a dropped certificate is taken again by the same opening": ((refusals,), "certificates", _by_kept),
+}
+
+
+@contextmanager
+def judged_by(name):
+    """What is judged within is judged so."""
+    modules, called, wrong = WRONG_JUDGES[name]
+    right = [getattr(it, called) for it in modules]
+    for it in modules:
+        setattr(it, called, wrong)
+    try:
+        yield
+    finally:
+        for it, was in zip(modules, right):
+            setattr(it, called, was)

@@ -299,7 +299,13 @@ impl Settings {
         self
     }
 
-    /// Tells whether a node can be opened with these settings.
+    /// How many members may be down, lie or stay silent while the others finalize on. Below four none: whoever sets up such a
+    /// committee should know it, and that one of a single member may stand for good behind one bad verdict.
+    pub fn faults(&self) -> u32 {
+        self.members.saturating_sub(1) / 3
+    }
+
+    /// Tells whether a node can be opened with these settings: also of a committee that bears no fault ([`Settings::faults`]).
     ///
     /// # Errors
     ///

@@ -80,6 +80,16 @@ fn each_fault_is_told_by_its_name() {
 }
 
 #[test]
+fn a_committee_below_four_bears_no_fault_and_passes_the_check() {
+    for (members, faults) in [(1, 0), (3, 0), (4, 1), (6, 1), (7, 2), (65_535, 21_844)] {
+        let settings = Settings::new(0, members);
+        assert_eq!(settings.check(), Ok(()));
+        assert_eq!(settings.faults(), faults);
+    }
+    assert_eq!(Settings::new(0, 0).faults(), 0);
+}
+
+#[test]
 fn settings_show_in_the_first_reply() {
     assert_eq!(first("usual", &Settings::new(0, 4)), wake(1_000));
     assert_eq!(
