@@ -1,6 +1,6 @@
 //! When a member's host rewrites its record, and how often it did.
 
-ghost use Rattle.std.specs.Prelude.{◌≡◌, ◌≤◌, ◌+◌, ◌-◌, ◌^◌, ◌↔◌, ℕ, min, None, Some, IsTrue, IsSomeAnd, unwrap_or};
+ghost use Rattle.std.specs.Prelude.{◌≡◌, ◌≤◌, ◌+◌, ◌-◌, ◌^◌, ◌↔◌, min, None, IsTrue, IsSomeAnd, unwrap_or};
 
 /// How a host keeps a record short: it rewrites it each so many views that became final, so that it begins with the last of them.
 #[derive(Clone, Copy)]

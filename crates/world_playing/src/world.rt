@@ -322,10 +322,11 @@ impl<S: Committee, M: Seat<S>> World<S, M> {
         let Some(member) = self.members.get_mut(place) else {
             return Ok(());
         };
+        let index = member.index;
         match member.keep_short() {
             Ok(None) => Ok(()),
             Ok(Some(floor)) => {
-                self.chronicle.tell_rewrote(member.index, floor)?;
+                self.chronicle.tell_rewrote(index, floor)?;
                 Ok(())
             }
             Err(Halt::Crashed) => self.crash(place, true),
