@@ -12,7 +12,10 @@ use test_schemes::Chance;
 /// A fuse that never blows.
 pub const NO_FUSE: u64 = u64::MAX;
 
-/// How many calls a disk lets through. Its member holds the same one, and sets it while a node has the disk.
+/// A fuse that has blown.
+const BLOWN: u64 = u64::MAX - 1;
+
+/// How many calls the disks of a member let through, all together. The member holds the same one, and sets it while a node has them.
 pub type Fuse = Rc<Cell<u64>>;
 
 /// What was written since the last sync, of which a crash may leave any part.
@@ -42,22 +45,21 @@ struct Held {
     bytes: Vec<u8>,
     loose: Option<Loose>,
     fuse: Fuse,
-    is_down: bool,
     chance: Chance,
 }
 
 impl Held {
     /// What comes of the next call, which is counted.
     fn admission(&mut self) -> Admission {
-        if self.is_down {
-            return Admission::Down;
-        }
         let left = self.fuse.get();
         if left == NO_FUSE {
             return Admission::Through;
         }
+        if left == BLOWN {
+            return Admission::Down;
+        }
         if left == 0 {
-            self.is_down = true;
+            self.fuse.set(BLOWN);
             return Admission::CutOff;
         }
         self.fuse.set(left.saturating_sub(1));
@@ -185,7 +187,7 @@ impl Held {
 }
 
 /// A disk in memory that lets some calls through. The next is cut off: a write, or what was written and not synced by then, stands
-/// in part, and each further call fails until the disk is mended.
+/// in part, and each further call of a disk under this fuse fails until it is mended.
 #[derive(Drop)]
 pub struct TornDisk {
     held: Held,
@@ -201,7 +203,6 @@ impl TornDisk {
                 bytes: Vec::new(alloc),
                 loose: None,
                 fuse,
-                is_down: false,
                 chance: Chance::seeded(seed),
             },
             failures: 0,
@@ -217,7 +218,6 @@ impl TornDisk {
     pub fn mend(&mut self) {
         self.held.fuse.set(NO_FUSE);
         self.held.loose = None;
-        self.held.is_down = false;
     }
 
     /// What came of a call, where a failure is a fault that is counted.
