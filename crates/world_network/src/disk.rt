@@ -25,6 +25,8 @@ struct Loose {
     at: usize,
     /// What stood there, up to the end that the disk had.
     before: Vec<u8>,
+    /// How many bytes the disk had.
+    len: usize,
 }
 
 /// What comes of a call.
@@ -45,6 +47,9 @@ struct Held {
     bytes: Vec<u8>,
     loose: Option<Loose>,
     fuse: Fuse,
+    /// Whether a crash inside a sync leaves all that was there before the last write. Else it may take what stands behind that write too,
+    /// which a record over one disk bears, whose last entry stands there.
+    is_exact: bool,
     chance: Chance,
 }
 
@@ -160,7 +165,8 @@ impl Held {
         if self.fuse.get() != NO_FUSE {
             let end = at.checked_add(bytes.len())?.min(self.bytes.len());
             let before = Vec::from_slice(self.alloc, self.bytes.get(at..end)?).ok()?;
-            self.loose = Some(Loose { at, before });
+            let len = self.bytes.len();
+            self.loose = Some(Loose { at, before, len });
         }
         self.put(at, bytes)
     }
@@ -174,8 +180,9 @@ impl Held {
 
     /// What was written since the last sync stands in part.
     fn tear(&mut self) -> Option<()> {
-        let Loose { at, before } = self.loose.take()?;
-        let end = at.checked_add(before.len())?;
+        let Loose { at, before, len } = self.loose.take()?;
+        let over = at.checked_add(before.len())?;
+        let end = if self.is_exact { over.max(len) } else { over };
         let fresh = self.bytes.len().checked_sub(end)?;
         if self.chance.below(2) == 0 {
             self.put_over(at, &before)?;
@@ -195,14 +202,16 @@ pub struct TornDisk {
 }
 
 impl TornDisk {
-    /// An empty disk with this fuse. Which part of a write stands rests on the seed.
-    pub fn new(alloc: Global, fuse: Fuse, seed: u64) -> Self {
+    /// An empty disk with this fuse. Which part of a write stands rests on the seed. An exact one loses in a crash nothing that stood
+    /// there before the last write.
+    pub fn new(alloc: Global, fuse: Fuse, seed: u64, is_exact: bool) -> Self {
         TornDisk {
             held: Held {
                 alloc,
                 bytes: Vec::new(alloc),
                 loose: None,
                 fuse,
+                is_exact,
                 chance: Chance::seeded(seed),
             },
             failures: 0,

@@ -176,10 +176,10 @@ fn disks_of<K: Medium>(
     seed: u64,
 ) -> Result<Disks<K>, Broken> {
     if scenario.rewrite.is_none() {
-        return Ok(Disks::One(K::under(alloc, fuse, seed)));
+        return Ok(Disks::One(K::under(alloc, fuse, seed, false)));
     }
-    let first = K::under(alloc, fuse.clone()?, seed);
-    let second = K::under(alloc, fuse, seed.wrapping_add(SECOND));
+    let first = K::under(alloc, fuse.clone()?, seed, true);
+    let second = K::under(alloc, fuse, seed.wrapping_add(SECOND), true);
     Ok(Disks::Two(first, second))
 }
 
