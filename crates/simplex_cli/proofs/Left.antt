@@ -1,5 +1,5 @@
 -- What is left of the disks of a node that ran, and rewrote its record behind a whole input.
-use Rattle.std.proofs.Common.{◌≡◌, ◌⊎◌, inl, inr, List, [], ◌∷◌, ℕ, Bool, true, false, Option, None, Some, refl, sym, ap, ◌∙◌, subst}
+use Rattle.std.proofs.Common.{◌≡◌, inl, inr, List, [], ◌∷◌, ℕ, Bool, true, false, Option, None, Some, refl, sym, ap, ◌∙◌, subst}
 use Rattle.std.specs.Prelude.{Result, Ok, Err, IfErr, MatchOption, OnOk, is_ok, ⊤}
 use Rattle.types_core.specs.declared.scheme.Scheme.{Ghosts}
 use Rattle.journal_single.specs.declared.disk.Disk as disk

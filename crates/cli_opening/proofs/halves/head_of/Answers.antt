@@ -1,4 +1,4 @@
-use Rattle.std.proofs.Common.{◌∙◌, refl, arith}
+use Rattle.std.proofs.Common.{◌∙◌, arith}
 use Rattle.cli_opening.proofs.Heads.{number_none, number_there, of_none, zero_none}
 use Rattle.simplex_journal.specs.GenerationLaws.{none_first, none_short}
 use Rattle.cli_opening.proofs.halves.head_of.Goals as goal

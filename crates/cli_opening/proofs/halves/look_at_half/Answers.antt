@@ -1,5 +1,4 @@
-use Rattle.std.proofs.Common.{◌≡◌, ap, sym, subst, arith, ℕ, List, length-drop}
-use Rattle.cli_opening.specs.Looking.{IsBarredBy, IsFoundBy}
+use Rattle.std.proofs.Common.{arith}
 use Rattle.cli_opening.proofs.Heads.{beyond_behind, device_behind, place_within}
 use Rattle.cli_opening.proofs.halves.look_at_half.Goals as goal
 
