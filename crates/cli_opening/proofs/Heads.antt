@@ -1,5 +1,5 @@
 -- Where the record of one of two disks begins, and the places that are named in it.
-use Rattle.std.proofs.Common.{◌≡◌, ◌≢◌, inl, inr, ℕ, ◌+◌, ◌≤◌, ◌<◌, List, length, get_or, drop, refl, ap, arith, length-append}
+use Rattle.std.proofs.Common.{◌≡◌, ◌≢◌, inl, inr, ℕ, ◌≤◌, ◌<◌, List, length, get_or, drop, refl, ap, arith, length-append}
 use Rattle.journal_single.specs.Record.{size}
 use Rattle.simplex_journal.specs.Generation.{HasNone, IsOf}
 use Rattle.simplex_journal.specs.GenerationLaws.{generation_here}

@@ -32,7 +32,7 @@ pub record IsFoundOnHalf (base : List ℕ) (count : ℕ) (owner : Owner) (cuts :
   pub generation : ℕ
   pub head : ℕ
   pub of : IsOf bytes generation (drop head bytes)
-  pub found : IsFoundBy base count owner cuts (drop head bytes) found
+  pub says : IsFoundBy base count owner cuts (drop head bytes) found
 
 -- why one of two disks of these bytes is left as it is: for what its record is, behind the head of its generation
 pub record IsBarredOnHalf (base : List ℕ) (count : ℕ) (owner : Owner) (bytes : List ℕ) (why : Barred) : Type 0 where

@@ -7,7 +7,7 @@ pub behind-requires : goal.behind-requires
 behind-requires g c = omega (arith, place_within _ _ _ _ c.in-Err.barred c.in-Err.ensures.barred, c.head_of-head.ensures.short)
 
 pub returns-in-Ok-clause-found : goal.returns-in-Ok-clause-found
-returns-in-Ok-clause-found c = record { generation = c.head_of-head.ensures.record.0; head = c.head_of-head.result; of = c.head_of-head.ensures.record.1; found = c.in-Ok.ensures.found }
+returns-in-Ok-clause-found c = record { generation = c.head_of-head.ensures.record.0; head = c.head_of-head.result; of = c.head_of-head.ensures.record.1; says = c.in-Ok.ensures.found }
 
 pub returns-in-Err-clause-barred : goal.returns-in-Err-clause-barred
 returns-in-Err-clause-barred c = record {
