@@ -1,12 +1,12 @@
 -- Where the record of one of two disks begins, and the places that are named in it.
-use Rattle.std.proofs.Common.{◌≡◌, ◌≢◌, inl, inr, ℕ, ◌≤◌, ◌<◌, List, length, get_or, drop, refl, ap, arith, length-append}
+use Rattle.std.proofs.Common.{◌≡◌, ◌≢◌, inl, inr, ℕ, ◌≤◌, ◌<◌, List, length, get_or, drop, refl, sym, ap, subst, arith, length-append}
 use Rattle.journal_single.specs.Record.{size}
-use Rattle.simplex_journal.specs.Generation.{HasNone, IsOf}
-use Rattle.simplex_journal.specs.GenerationLaws.{generation_here}
+use Rattle.simplex_journal.specs.Generation.{HasNone, IsGeneration, IsOf}
+use Rattle.simplex_journal.specs.GenerationLaws.{generation_here, number_any}
 use Rattle.simplex_record.specs.declared.owner.Owner.{Owner}
 use Rattle.cli_opening.specs.declared.looking.Barred.{Barred}
 use Rattle.cli_opening.specs.declared.looking.Barred.TheVariants as barred
-use Rattle.cli_opening.specs.Halves.{behind, place_of}
+use Rattle.cli_opening.specs.Halves.{IsBarredOnHalf, behind, place_of}
 use Rattle.cli_opening.specs.Looking.{IsBarredBy, IsBeyondCut}
 
 -- bytes of no generation are their record
@@ -55,3 +55,18 @@ device_behind head (barred.Foreign place) other is = absurd cc
 device_behind head (barred.Unlawful position) other is = absurd cc
 device_behind head (barred.Unclosed place) other is = absurd cc
 device_behind head (barred.Behind place) other is = absurd cc
+
+-- any bytes are of a generation or of none
+headed : (bytes : List ℕ) (generation : ℕ) (rest : List ℕ) → IsOf bytes generation rest → (number : ℕ) × (head : ℕ) × IsOf bytes number (drop head bytes)
+headed bytes generation rest (inl is) =
+    (generation, 9, inl (subst (λ (l : List ℕ). IsGeneration bytes generation l) (sym (ap (λ (l : List ℕ). drop 9 l) is.split)) is))
+headed bytes generation rest (inr (none, zero, same)) = (0, 0, inr (none, refl, refl))
+
+-- so of bytes that weren't read nothing is said
+pub unread : (base : List ℕ) (count : ℕ) (owner : Owner) (bytes : List ℕ) → IsBarredOnHalf base count owner bytes barred.Memory × IsBarredOnHalf base count owner bytes barred.Device
+unread base count owner bytes =
+    let any = number_any bytes in
+    let so = headed bytes any.0 any.1.0 any.1.1 in (
+      record { generation = so.0; head = so.1; of = so.2; cause = barred.Memory; told = refl; barred = tt },
+      record { generation = so.0; head = so.1; of = so.2; cause = barred.Device; told = refl; barred = tt },
+    )
