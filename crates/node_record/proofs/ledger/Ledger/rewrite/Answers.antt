@@ -1,15 +1,9 @@
-use Rattle.std.proofs.Common.{◌≡◌, ◌∙◌, List, Some, None, ap, subst, sym}
+use Rattle.std.proofs.Common.{◌∙◌, ap, subst, sym}
 use Rattle.messages_certificates.specs.declared.artifact.Artifact.{Artifact}
-use Rattle.messages_certificates.specs.ProposalCertificate.{Finalization}
 use Rattle.journal_books.specs.declared.books.Books.{Books}
-use Rattle.journal_books.specs.Books.{HasNotFailed, IsBook, disks_of}
+use Rattle.journal_books.specs.Books.{HasNotFailed, disks_of}
 use Rattle.journal_books.specs.BooksLaws.{same_not_failed}
-use Rattle.simplex_record.specs.Lawful.{rewritten}
-use Rattle.simplex_member.specs.Recorded.{next_floor}
-use Rattle.node_record.specs.declared.ledger.Ledger.{Ledger}
-use Rattle.node_record.specs.Ledger.{KeepsRecord}
-use Rattle.node_record.proofs.Beginning.{next-is-last}
-use Rattle.node_record.proofs.Rewriting.{cannot-view, no-view, rests, rewrites, view-is}
+use Rattle.node_record.proofs.Rewriting.{cannot-view, keeps-left, no-view, rests, rewrites, view-is}
 use Rattle.node_record.proofs.ledger.Ledger.rewrite.Goals as goal
 
 -- ---- it can't be rewritten
@@ -68,16 +62,9 @@ returns-in-Ok-rewrite_book-clause-view g c = λ owner xs k.
 
 pub returns-in-Ok-rewrite_book-clause-keeps : goal.returns-in-Ok-rewrite_book-clause-keeps
 returns-in-Ok-rewrite_book-clause-keeps g c = λ scheme owner xs d may k lawful next.
-    let some = c.in-Some.ensures owner xs k.holds in
-    let same : c.in-Some.floor.now ≡ d = cc (some, next) in
-    let last = next-is-last xs c.in-Some.floor.now (sym some) in
-    let left_is = c.in-Ok.ensures.artifacts owner xs k.holds in
-    subst (λ (x : Finalization g.row.S.Denot g.row.D.Denot g.row.S-PublicKey.Denot g.row.S-Signature.Denot g.row.S-Certificate.Denot). KeepsRecord g.K.Disk _ owner _ (rewritten owner.term_length x xs)) same (record {
-      holds = c.in-Ok.ensures.holds scheme owner xs k.holds lawful last.0 last.1;
-      runs = c.in-Ok-rewrite_book.ensures.stays_open;
-      journal = λ keeps. subst (λ (l : List (Artifact g.row.S.Denot g.row.D.Denot g.row.S-PublicKey.Denot g.row.S-Signature.Denot g.row.S-Certificate.Denot)). IsBook g.K.Disk _ c.rewrite_book.new.books l) left_is
-          (rw c.deref-2.ensures.value at (c.in-Ok-rewrite_book.ensures.record xs keeps (k.journal keeps)));
-    })
+    keeps-left g.K.Disk _ owner xs c.rewrite_book.new.books c.in-Ok.left c.in-Some.floor.now d (c.in-Some.ensures owner xs k.holds) next (c.in-Ok.ensures.artifacts owner xs k.holds)
+    (c.in-Ok.ensures.holds scheme owner xs k.holds lawful) c.in-Ok-rewrite_book.ensures.stays_open
+    (λ keeps. rw c.deref-2.ensures.value at (c.in-Ok-rewrite_book.ensures.record xs keeps (k.journal keeps)))
 
 pub returns-in-Ok-rewrite_book-clause-none_if_it_cannot : goal.returns-in-Ok-rewrite_book-clause-none_if_it_cannot
 returns-in-Ok-rewrite_book-clause-none_if_it_cannot g c = λ cannot. absurd (cc (cannot, c.may_rewrite.ensures, c.if-not-may_rewrite.false))
@@ -92,23 +79,23 @@ returns-in-Ok-rewrite_book-clause-any_moment g c = λ owner xs k keeps.
 
 -- ---- the disks didn't take it
 
-pub returns-in-Err-rewrite_book-clause-unchanged : goal.returns-in-Err-rewrite_book-clause-unchanged
-returns-in-Err-rewrite_book-clause-unchanged g c = λ other.
+pub returns-in-Err-clause-unchanged : goal.returns-in-Err-clause-unchanged
+returns-in-Err-clause-unchanged g c = λ other.
     ap (λ (b : Books (Artifact g.row.S.Denot g.row.D.Denot g.row.S-PublicKey.Denot g.row.S-Signature.Denot g.row.S-Certificate.Denot) g.row.K.Denot). record { books = b; recorded = c.args.self.now.recorded })
-    (c.in-Err-rewrite_book.ensures.unchanged other)
+    (c.in-Err.ensures.unchanged other)
 
-pub returns-in-Err-rewrite_book-clause-none_if_it_cannot : goal.returns-in-Err-rewrite_book-clause-none_if_it_cannot
-returns-in-Err-rewrite_book-clause-none_if_it_cannot g c = λ cannot. absurd (cc (cannot, c.may_rewrite.ensures, c.if-not-may_rewrite.false))
+pub returns-in-Err-clause-none_if_it_cannot : goal.returns-in-Err-clause-none_if_it_cannot
+returns-in-Err-clause-none_if_it_cannot g c = λ cannot. absurd (cc (cannot, c.may_rewrite.ensures, c.if-not-may_rewrite.false))
 
-pub returns-in-Err-rewrite_book-clause-none_if_it_begins_there : goal.returns-in-Err-rewrite_book-clause-none_if_it_begins_there
-returns-in-Err-rewrite_book-clause-none_if_it_begins_there g c = λ owner xs k next. let some = c.in-Some.ensures owner xs k.holds in absurd (cc (some, next))
+pub returns-in-Err-clause-none_if_it_begins_there : goal.returns-in-Err-clause-none_if_it_begins_there
+returns-in-Err-clause-none_if_it_begins_there g c = λ owner xs k next. let some = c.in-Some.ensures owner xs k.holds in absurd (cc (some, next))
 
-pub returns-in-Err-rewrite_book-clause-any_moment : goal.returns-in-Err-rewrite_book-clause-any_moment
-returns-in-Err-rewrite_book-clause-any_moment g c = λ owner xs k keeps.
+pub returns-in-Err-clause-any_moment : goal.returns-in-Err-clause-any_moment
+returns-in-Err-clause-any_moment g c = λ owner xs k keeps.
     rewrites g.K.Disk _ owner.term_length xs _ _ c.in-Ok.left.artifacts.items c.in-Some.floor.now (sym (c.in-Some.ensures owner xs k.holds)) (c.in-Ok.ensures.artifacts owner xs k.holds)
-    (rw c.deref-2.ensures.value at (c.in-Err-rewrite_book.ensures.any_moment xs keeps (k.journal keeps)))
+    (rw c.deref-2.ensures.value at (c.in-Err.ensures.any_moment xs keeps (k.journal keeps)))
 
-pub returns-in-Err-rewrite_book-clause-no_device : goal.returns-in-Err-rewrite_book-clause-no_device
-returns-in-Err-rewrite_book-clause-no_device g c = λ other.
+pub returns-in-Err-clause-no_device : goal.returns-in-Err-clause-no_device
+returns-in-Err-clause-no_device g c = λ other.
     subst (λ (b : Books (Artifact g.row.S.Denot g.row.D.Denot g.row.S-PublicKey.Denot g.row.S-Signature.Denot g.row.S-Certificate.Denot) g.row.K.Denot). HasNotFailed g.K.Disk (disks_of c.args.self.now.books) (disks_of b))
-    (sym (c.in-Err-rewrite_book.ensures.unchanged other)) (same_not_failed g.K.Disk (disks_of c.args.self.now.books))
+    (sym (c.in-Err.ensures.unchanged other)) (same_not_failed g.K.Disk (disks_of c.args.self.now.books))
