@@ -1,21 +1,24 @@
 -- A rewrite of a record, and what a crash leaves of it.
-use Rattle.std.proofs.Common.{◌≡◌, ◌<◌, ◌-◌, ◌^◌, ◌∙◌, ◌↔◌, ◌⊎◌, inl, inr, ⊎_elim, ℕ, Bool, true, false, List, [], ◌∷◌, Option, Some, None, refl, ap, sym, subst, map, arith, ltb-true}
-use Rattle.std.specs.Prelude.{All, IsTrue, option_map}
+use Rattle.std.proofs.Common.{◌≡◌, ◌<◌, ◌-◌, ◌^◌, ◌∙◌, ◌↔◌, ◌⊎◌, inl, inr, ⊎_elim, ℕ, Bool, true, false, List, [], ◌∷◌, Option, Some, None, refl, ap, subst, sym, map, arith, ltb-true}
+use Rattle.std.specs.Prelude.{All, Contains, IsTrue, if◌then◌else◌, option_map}
 use Rattle.std.proofs.lemmas.List.Elements.{All-cons, All-head, All-nil, All-tail}
 use Rattle.messages_certificates.specs.declared.artifact.Artifact.{Artifact}
+use Rattle.messages_certificates.specs.declared.artifact.Artifact.TheVariants as artifact
 use Rattle.messages_certificates.specs.ProposalCertificate.{Finalization}
-use Rattle.simplex_record.specs.declared.owner.Owner.{Owner}
 use Rattle.journal_single.specs.declared.disk.Disk as disk
 use Rattle.journal_books.specs.declared.books.Books.{Books}
 use Rattle.journal_books.specs.declared.books.Books.TheVariants as books
 use Rattle.journal_books.specs.declared.disks.Disks.{Disks}
 use Rattle.journal_books.specs.Books.{IsBook, Leave, LeaveBook, are_two, disks_of, generation_of, has_failed, may_rewrite}
 use Rattle.journal_books.specs.BooksLaws.{book_leaves, book_weaker, leave_weaker}
+use Rattle.simplex_record.specs.declared.owner.Owner.{Owner}
 use Rattle.simplex_record.specs.Lawful.{rewritten}
+use Rattle.simplex_record.specs.Record.{entries, last_finalized}
 use Rattle.simplex_member.specs.Recorded.{next_floor}
-use Rattle.node_record.specs.declared.ledger.Ledger.{Ledger}
+use Rattle.node_record.specs.declared.recorded.Recorded.{Recorded}
 use Rattle.node_record.specs.Ledger.{IsRewriting, KeepsRecord, next_view}
 use Rattle.node_record.specs.Recorded.{HoldsRecord}
+use Rattle.node_record.proofs.Beginning.{next-is-last}
 
 module _ {X : Type 0} (P : X → Type 0) where
   -- something holds of all just if it holds of those that don't come yet: of the first it does, or it doesn't, or none is left
@@ -67,13 +70,18 @@ module _ {S D P G C K : Type 0} (k : disk.Ghosts K) (spelled : Artifact S D P G 
   rewrites old new list c next is leaves =
       leave_weaker k _ _ (λ read. ⊎_elim (λ same. inl same) (λ rewrote. inr (c, next, rewrote ∙ ap (λ (l : List (Artifact S D P G C)). map spelled l) is))) old new leaves
 
-module _ {S D P G C K : Type 0} (k : disk.Ghosts K) (spelled : Artifact S D P G C → List ℕ) where
-  -- what is left of a record is kept, by the one finalization that it may begin with
-  pub keeps-rewritten : (owner : Owner) (ledger : Ledger S D K P G C) (x c : Finalization S D P G C) (xs left : List (Artifact S D P G C)) → x ≡ c → left ≡ rewritten owner.term_length x xs
-      → HoldsRecord owner ledger.recorded (rewritten owner.term_length x xs) → has_failed ledger.books ≡ false → (k.keeps → IsBook k spelled ledger.books left)
-      → KeepsRecord k spelled owner ledger (rewritten owner.term_length c xs)
-  keeps-rewritten owner ledger x c xs left same left_is holds runs journal = record {
-    holds = subst (λ (y : Finalization S D P G C). HoldsRecord owner ledger.recorded (rewritten owner.term_length y xs)) same holds;
-    runs = runs;
-    journal = λ keeps. subst (λ (l : List (Artifact S D P G C)). IsBook k spelled ledger.books l) (left_is ∙ ap (λ (y : Finalization S D P G C). rewritten owner.term_length y xs) same) (journal keeps);
-  }
+module _ {S D P G C K : Type 0} (k : disk.Ghosts K) (spelled : Artifact S D P G C → List ℕ) (owner : Owner) (xs : List (Artifact S D P G C)) where
+  -- once they have taken what a rewrite leaves, that is the record
+  pub keeps-left : (b : Books (Artifact S D P G C) K) (left : Recorded S D P G C) (c d : Finalization S D P G C) → Some c ≡ next_floor xs → next_floor xs ≡ Some d
+      → left.artifacts.items ≡ rewritten owner.term_length c xs
+      → (Contains xs (artifact.Finalization c) → c.proposal.round.view ≡ last_finalized (entries xs) → HoldsRecord owner left (rewritten owner.term_length c xs))
+      → has_failed b ≡ false → (k.keeps → IsBook k spelled b left.artifacts.items)
+      → KeepsRecord k spelled owner (record { books = b; recorded = left }) (rewritten owner.term_length d xs)
+  keeps-left b left c d some next left_is holds runs journal =
+      let same : c ≡ d = cc (some, next) in
+      let last = next-is-last xs c (sym some) in
+      subst (λ (x : Finalization S D P G C). KeepsRecord k spelled owner (record { books = b; recorded = left }) (rewritten owner.term_length x xs)) same (record {
+        holds = holds last.0 last.1;
+        runs = runs;
+        journal = λ keeps. subst (λ (l : List (Artifact S D P G C)). IsBook k spelled b l) left_is (journal keeps);
+      })

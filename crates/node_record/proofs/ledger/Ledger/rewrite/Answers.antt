@@ -1,11 +1,9 @@
 use Rattle.std.proofs.Common.{◌∙◌, ap, subst, sym}
-use Rattle.messages_certificates.specs.Artifact.{artifact_spelling}
 use Rattle.messages_certificates.specs.declared.artifact.Artifact.{Artifact}
 use Rattle.journal_books.specs.declared.books.Books.{Books}
 use Rattle.journal_books.specs.Books.{HasNotFailed, disks_of}
 use Rattle.journal_books.specs.BooksLaws.{same_not_failed}
-use Rattle.node_record.proofs.Beginning.{next-is-last}
-use Rattle.node_record.proofs.Rewriting.{cannot-view, keeps-rewritten, no-view, rests, rewrites, view-is}
+use Rattle.node_record.proofs.Rewriting.{cannot-view, keeps-left, no-view, rests, rewrites, view-is}
 use Rattle.node_record.proofs.ledger.Ledger.rewrite.Goals as goal
 
 -- ---- it can't be rewritten
@@ -64,11 +62,8 @@ returns-in-Ok-rewrite_book-clause-view g c = λ owner xs k.
 
 pub returns-in-Ok-rewrite_book-clause-keeps : goal.returns-in-Ok-rewrite_book-clause-keeps
 returns-in-Ok-rewrite_book-clause-keeps g c = λ scheme owner xs d may k lawful next.
-    let some = c.in-Some.ensures owner xs k.holds in
-    let last = next-is-last xs c.in-Some.floor.now (sym some) in
-    keeps-rewritten g.K.Disk (artifact_spelling g.D.Write.spelling g.S.Signature.Write.spelling g.S.Certificate.Write.spelling) owner
-    (record { books = c.rewrite_book.new.books; recorded = c.in-Ok.left }) c.in-Some.floor.now d xs c.in-Ok.left.artifacts.items (cc (some, next)) (c.in-Ok.ensures.artifacts owner xs k.holds)
-    (c.in-Ok.ensures.holds scheme owner xs k.holds lawful last.0 last.1) c.in-Ok-rewrite_book.ensures.stays_open
+    keeps-left g.K.Disk _ owner xs c.rewrite_book.new.books c.in-Ok.left c.in-Some.floor.now d (c.in-Some.ensures owner xs k.holds) next (c.in-Ok.ensures.artifacts owner xs k.holds)
+    (c.in-Ok.ensures.holds scheme owner xs k.holds lawful) c.in-Ok-rewrite_book.ensures.stays_open
     (λ keeps. rw c.deref-2.ensures.value at (c.in-Ok-rewrite_book.ensures.record xs keeps (k.journal keeps)))
 
 pub returns-in-Ok-rewrite_book-clause-none_if_it_cannot : goal.returns-in-Ok-rewrite_book-clause-none_if_it_cannot
