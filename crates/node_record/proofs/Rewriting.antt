@@ -1,6 +1,6 @@
 -- A rewrite of a record, and what a crash leaves of it.
 use Rattle.std.proofs.Common.{◌≡◌, ◌<◌, ◌-◌, ◌^◌, ◌∙◌, ◌↔◌, ◌⊎◌, inl, inr, ⊎_elim, ℕ, Bool, true, false, List, [], ◌∷◌, Option, Some, None, refl, ap, subst, sym, map, arith, ltb-true}
-use Rattle.std.specs.Prelude.{All, Contains, IsTrue, if◌then◌else◌, option_map}
+use Rattle.std.specs.Prelude.{All, Contains, IsTrue, option_map}
 use Rattle.std.proofs.lemmas.List.Elements.{All-cons, All-head, All-nil, All-tail}
 use Rattle.messages_certificates.specs.declared.artifact.Artifact.{Artifact}
 use Rattle.messages_certificates.specs.declared.artifact.Artifact.TheVariants as artifact
