@@ -65,4 +65,3 @@ returns-in-Err-Memory-clause-any_moment g c = λ s h k none keeps.
 
 pub returns-in-Err-Memory-clause-none_if_it_begins_there : goal.returns-in-Err-Memory-clause-none_if_it_begins_there
 returns-in-Err-Memory-clause-none_if_it_begins_there g c = λ s h k none. let is = c.rewrite.ensures.none_if_it_begins_there (owner_of s) (kept_of s.voter.length h) k.ledger none in absurd (cc (is, c.in-Err-Memory.is))
-
