@@ -8,3 +8,6 @@ pub mod Asking
 pub mod Firsts
 pub mod Verdicts
 pub mod Quiet
+pub mod Beginning
+pub mod Built
+pub mod Rewriting

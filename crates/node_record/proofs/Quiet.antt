@@ -1,6 +1,6 @@
 -- What concerns neither requests nor asks nor the time leaves the tables where they stand.
 use Rattle.std.proofs.Common.{◌≡◌, ◌∷◌, ℕ, true}
-use Rattle.simplex_member.specs.Point.{Point, Opened, Found, Began, Told, Heard, Came, Wanted, Built, Checked, Judged, Leads, Forwards, Constructs, Latches, Polls, AsksBuild, AsksVerify, AsksCertify, GivesBack, LeavesBehind, PutsOff, Asks, Resolves, Votes, Repeats, History}
+use Rattle.simplex_member.specs.Point.{Point, Opened, Found, Began, Told, Heard, Came, Wanted, Built, Checked, Judged, Leads, Forwards, Constructs, Latches, Polls, AsksBuild, AsksVerify, AsksCertify, GivesBack, LeavesBehind, PutsOff, Asks, Resolves, Votes, Repeats, Rewrote, History}
 use Rattle.node_record.specs.declared.tables.Tables.{Tables}
 use Rattle.node_record.specs.Tables.{KeepsTables, is_quiet}
 
@@ -31,3 +31,4 @@ module _ {S D P G C : Type 0} (low : ℕ) (tables : Tables S D P G C) (h : Histo
   stays_quiet (Resolves view kind u) quiet k = k
   stays_quiet (Votes v) quiet k = k
   stays_quiet (Repeats v best) quiet k = k
+  stays_quiet (Rewrote c) quiet k = k

@@ -6,7 +6,7 @@ use Rattle.types_quorum.specs.Counting.{Contains-cases, Contains-head, Contains-
 use Rattle.types_core.specs.declared.proposal.Proposal.{Proposal}
 use Rattle.simplex_member.specs.Asked.{IsAwaited, IsJudged}
 use Rattle.simplex_member.specs.Layers.{finalized_of}
-use Rattle.simplex_member.specs.Point.{Point, Opened, Found, Began, Told, Heard, Came, Wanted, Built, Checked, Judged, Leads, Forwards, Constructs, Latches, Polls, AsksBuild, AsksVerify, AsksCertify, GivesBack, LeavesBehind, PutsOff, Asks, Resolves, Votes, Repeats, History}
+use Rattle.simplex_member.specs.Point.{Point, Opened, Found, Began, Told, Heard, Came, Wanted, Built, Checked, Judged, Leads, Forwards, Constructs, Latches, Polls, AsksBuild, AsksVerify, AsksCertify, GivesBack, LeavesBehind, PutsOff, Asks, Resolves, Votes, Repeats, Rewrote, History}
 use Rattle.simplex_member.specs.Setup.{Setup}
 use Rattle.node_record.specs.Tables.{verdict_asked, verdicts_of}
 
@@ -38,6 +38,7 @@ module _ {S D P G C : Type 0} where
   asks_of_proposal (Resolves at kind u) view e = absurd (cc e)
   asks_of_proposal (Votes v) view e = absurd (cc e)
   asks_of_proposal (Repeats v best) view e = absurd (cc e)
+  asks_of_proposal (Rewrote c) view e = absurd (cc e)
 
   -- a verdict on the view was asked for, of a proposal
   abbrev WasAsked : History S D P G C → ℕ → Type 0

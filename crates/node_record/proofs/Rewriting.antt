@@ -1,0 +1,53 @@
+-- A rewrite of a record, and what a crash leaves of it.
+use Rattle.std.proofs.Common.{◌≡◌, ◌<◌, ◌-◌, ◌^◌, ◌∙◌, ◌⊎◌, inl, inr, ⊎_elim, ℕ, Bool, true, false, List, Option, Some, None, refl, ap, subst, sym, map, arith}
+use Rattle.std.specs.Prelude.{if◌then◌else◌, option_map}
+use Rattle.std.proofs.lemmas.Bool.Decides.{nat_tests}
+use Rattle.messages_certificates.specs.declared.artifact.Artifact.{Artifact}
+use Rattle.messages_certificates.specs.ProposalCertificate.{Finalization}
+use Rattle.journal_single.specs.declared.disk.Disk as disk
+use Rattle.journal_books.specs.declared.books.Books.{Books}
+use Rattle.journal_books.specs.declared.books.Books.TheVariants as books
+use Rattle.journal_books.specs.declared.disks.Disks.{Disks}
+use Rattle.journal_books.specs.Books.{IsBook, Leave, LeaveBook, are_two, disks_of, generation_of, may_rewrite}
+use Rattle.journal_books.specs.BooksLaws.{book_leaves, book_weaker, leave_weaker}
+use Rattle.simplex_record.specs.Lawful.{rewritten}
+use Rattle.simplex_member.specs.Recorded.{next_floor}
+use Rattle.node_record.specs.Ledger.{IsRewriting, next_view}
+
+module _ {M K : Type 0} where
+  -- what can be rewritten is over two disks, and isn't of the last generation
+  pub may-two : (b : Books M K) → may_rewrite b ≡ true → are_two (disks_of b) ≡ true
+  may-two (books.One journal) may = absurd (cc may)
+  may-two (books.Two pair) may = refl
+
+  pub may-further : (b : Books M K) → may_rewrite b ≡ true → (are_two (disks_of b) ≡ true → generation_of b ≡ 2 ^ 32 - 1) → ⊥
+  may-further (books.One journal) may last = absurd (cc may)
+  may-further (books.Two pair) may last =
+      let is : pair.generation ≡ 2 ^ 32 - 1 = last refl in
+      absurd (grind (arith, nat_tests, may, is))
+
+module _ {S D P G C : Type 0} (xs : List (Artifact S D P G C)) where
+  -- the view that is told
+  pub view-is : (may : Bool) (c : Finalization S D P G C) (view : ℕ) → may ≡ true → next_floor xs ≡ Some c → view ≡ c.proposal.round.view → Some view ≡ next_view may xs
+  view-is true c view may next is = ap (λ (v : ℕ). Some v) is ∙ sym (ap (λ (o : Option (Finalization S D P G C)). option_map (λ (d : Finalization S D P G C). d.proposal.round.view) o) next)
+  view-is false c view may next is = absurd (cc may)
+
+  -- and where none is to be
+  pub no-view : (may : Bool) → next_floor xs ≡ None → None ≡ next_view may xs
+  no-view true next = sym (ap (λ (o : Option (Finalization S D P G C)). option_map (λ (d : Finalization S D P G C). d.proposal.round.view) o) next)
+  no-view false next = refl
+
+  pub cannot-view : (may : Bool) → may ≡ false → None ≡ next_view may xs
+  cannot-view true cannot = absurd (cc cannot)
+  cannot-view false cannot = refl
+
+module _ {S D P G C K : Type 0} (k : disk.Ghosts K) (spelled : Artifact S D P G C → List ℕ) (views : ℕ) (xs : List (Artifact S D P G C)) where
+  -- while nothing is asked of the disks, a crash leaves the record
+  pub rests : (b : Books (Artifact S D P G C) K) → IsBook k spelled b xs → LeaveBook k b b (λ read. read ≡ map spelled xs) → Leave k (disks_of b) (disks_of b) (IsRewriting spelled views xs)
+  rests b is leaves = book_leaves k (IsRewriting spelled views xs) spelled xs b b is (book_weaker k _ _ (λ read same. inl same) b b leaves)
+
+  -- while they take what a rewrite leaves, it leaves the record or that
+  pub rewrites : (old new : Disks K) (list : List (Artifact S D P G C)) (c : Finalization S D P G C) → next_floor xs ≡ Some c → list ≡ rewritten views c xs
+      → Leave k old new (λ read. (read ≡ map spelled xs) ⊎ (read ≡ map spelled list)) → Leave k old new (IsRewriting spelled views xs)
+  rewrites old new list c next is leaves =
+      leave_weaker k _ _ (λ read. ⊎_elim (λ same. inl same) (λ rewrote. inr (c, next, rewrote ∙ ap (λ (l : List (Artifact S D P G C)). map spelled l) is))) old new leaves
