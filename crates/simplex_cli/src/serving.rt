@@ -22,6 +22,7 @@ use std::alloc::Global;
 use std::rc::Rc;
 use types_core::{Digest, Scheme};
 use types_terms::Elector;
+use voter_rules::Floor;
 use voter_rules::config::Config;
 
 /// Opens a member's record at a moment, in milliseconds, writes what the opening hands out as a reply, and then answers the events
@@ -33,7 +34,7 @@ use voter_rules::config::Config;
 /// [`run_io`] answered.
 pub fn serve_over<S: Scheme<D> + Drop, L: Elector<S, D>, D: Digest, K: Disk, R: Source, W: Sink>(
     alloc: Global,
-    config: Config<D>,
+    config: Config<Floor<S, D>>,
     scheme: Rc<S>,
     elector: L,
     disk: K,

@@ -6,7 +6,7 @@ ghost use Rattle.journal_books.specs.declared.disks.Disks.TheVariants.{One};
 ghost use Rattle.journal_books.specs.Books.{are_two};
 ghost use Rattle.simplex_member.specs.declared.action.Reply.{Reply};
 ghost use Rattle.simplex_member.specs.declared.fault.IoFault.TheVariants as fault;
-ghost use Rattle.simplex_member.specs.Setup.{setup_of};
+ghost use Rattle.simplex_member.specs.Setup.{brought_by, setup_of};
 ghost use Rattle.node_steps.specs.Keeps.{disks_of};
 ghost use Rattle.node_steps.specs.Opening.{HasOpened, IsOpenAndSettled, IsUnopened};
 ghost use Rattle.simplex_node.specs.Running.{IsWritten};
@@ -20,6 +20,7 @@ use std::alloc::Global;
 use std::rc::Rc;
 use types_core::{Digest, Scheme};
 use types_terms::Elector;
+use voter_rules::Floor;
 use voter_rules::config::Config;
 
 /// Opens a member's record at a moment, in milliseconds, and writes what the opening hands out as the first reply. With the node,
@@ -31,7 +32,7 @@ use voter_rules::config::Config;
 /// reply's bytes: then nothing was written, and [`IoFault::Write`] where a write or the flush failed: then a front of them was.
 pub fn open_io<S: Scheme<D> + Drop, L: Elector<S, D>, D: Digest, K: Disk, W: Sink>(
     alloc: Global,
-    config: Config<D>,
+    config: Config<Floor<S, D>>,
     scheme: Rc<S>,
     elector: L,
     disk: K,
@@ -45,7 +46,8 @@ pub fn open_io<S: Scheme<D> + Drop, L: Elector<S, D>, D: Digest, K: Disk, W: Sin
         (index : ℕ) × (first : Reply S D S.PublicKey S.Signature S.Certificate) × (S.own scheme.value ≡ Some index) × (first.refused ≡ None)
         × IsWritten (spelled S.PublicKey.spelling D.spelling S.Signature.spelling S.Certificate.spelling) first r.1 (W.contents writer.old)
         (W.contents writer.new) × IsOpenAndSettled S.Scheme L.Elector K.Disk (⟦<S as Speaks<D>>⟧.formats (S.size scheme.value))
-        (setup_of S.Scheme L.Elector config scheme.value elector index) ⟦<S as Speaks<D>>⟧.readable (One disk) now r.0 first.actions.items) }
+        (setup_of S.Scheme L.Elector config scheme.value elector index) ⟦<S as Speaks<D>>⟧.readable (brought_by config.floor) (One disk) now r.0
+        first.actions.items) }
     ensures no_memory { IfOk result (λ r. r.1 ≡ Err fault.Memory → writer.new ≡ writer.old) }
     ensures unwritten { OnErr result (writer.new ≡ writer.old) }
 

@@ -8,6 +8,7 @@ use simplex_member::{Action, Event, NodeFault, OpenFault, Reply};
 use std::alloc::Global;
 use test_words::{Committee, Say, Trouble, Words};
 use types_core::Sha256Digest;
+use voter_rules::Floor;
 use voter_rules::config::Config;
 
 /// `NOW EVENTS NOW EVENTS ..`, to the line's end.
@@ -15,7 +16,7 @@ pub(crate) fn read_lives<S: Committee>(
     setup: &Setup,
     words: &mut Words<'_>,
     alloc: Global,
-) -> Result<Vec<Life<Config<Sha256Digest>, S, Event<Sha256Digest>>>, Trouble> {
+) -> Result<Vec<Life<Config<Floor<S, Sha256Digest>>, S, Event<Sha256Digest>>>, Trouble> {
     let mut lives = Vec::new(alloc);
     for _ in 0..u64::MAX {
         if !words.more() {
@@ -31,7 +32,7 @@ fn read_life<S: Committee>(
     setup: &Setup,
     words: &mut Words<'_>,
     alloc: Global,
-) -> Result<Life<Config<Sha256Digest>, S, Event<Sha256Digest>>, Trouble> {
+) -> Result<Life<Config<Floor<S, Sha256Digest>>, S, Event<Sha256Digest>>, Trouble> {
     let now = words.number()?;
     let events = read_events(setup, words, alloc)?;
     let scheme = setup.scheme(alloc)?;

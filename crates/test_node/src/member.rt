@@ -13,6 +13,7 @@ use std::marker::PhantomData;
 use std::rc::Rc;
 use test_words::{Committee, Say, Trouble, Words};
 use types_core::Sha256Digest;
+use voter_rules::Floor;
 use voter_rules::config::Config;
 
 /// What the calls of a script are made on, whatever the member's scheme, its disk and its node.
@@ -38,7 +39,7 @@ pub struct Member<S, K, N, T> {
 impl<S: Committee, K: Medium, N: Drop, T> Member<S, K, N, T>
 where
     T: Seat<
-        Config<Sha256Digest>,
+        Config<Floor<S, Sha256Digest>>,
         S,
         K,
         N,
@@ -288,7 +289,7 @@ where
 impl<S: Committee, K: Medium, N: Drop, T: Drop> Answers for Member<S, K, N, T>
 where
     T: Seat<
-        Config<Sha256Digest>,
+        Config<Floor<S, Sha256Digest>>,
         S,
         K,
         N,

@@ -5,6 +5,7 @@ use std::rc::Rc;
 use test_words::{Committee, Trouble, Words};
 use types_core::{Epoch, Participant, Sha256Digest, TermLength, ViewDelta};
 use types_terms::RoundRobin;
+use voter_rules::Floor;
 use voter_rules::config::{Config, ForwardPolicy, SkipBudget, SkipPolicy};
 
 /// A member of a committee of so many, and how it is set up.
@@ -145,11 +146,11 @@ impl Setup {
         }
     }
 
-    /// How the node is set up.
-    pub(crate) fn config(&self) -> Config<Sha256Digest> {
+    /// How the node is set up: it starts from the payload of zeros.
+    pub(crate) fn config<S: Committee>(&self) -> Config<Floor<S, Sha256Digest>> {
         Config {
             epoch: self.epoch,
-            floor: Sha256Digest::new([0; 32]),
+            floor: Floor::Genesis(Sha256Digest::new([0; 32])),
             leader_timeout: self.times.leader,
             certification_timeout: self.times.certification,
             timeout_retry: self.times.retry,

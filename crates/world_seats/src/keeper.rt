@@ -11,8 +11,9 @@ use std::alloc::Global;
 use std::rc::Rc;
 use test_words::Committee;
 use types_core::Sha256Digest;
+use voter_rules::Floor;
 use world_members::{Halt, Seat, config_of, member_of};
-use world_network::{Broken, Fuse, Scenario, Times};
+use world_network::{Broken, Fuse, Scenario, Times, genesis};
 
 /// A member's disk, and its node while that is open on it.
 #[derive(Drop)]
@@ -46,7 +47,7 @@ impl<S: Committee, L: Turns<S>, K: Medium> Keeper<S, L, K> {
         };
         match Node::open(
             self.alloc,
-            config_of(&self.times),
+            config_of(&self.times, Floor::Genesis(genesis())),
             scheme,
             elector,
             disk,
