@@ -5,6 +5,7 @@ use Rattle.std.specs.Io.KnownBytes.{Appends}
 use Rattle.types_codec.specs.declared.codec.CodecError.{CodecError}
 use Rattle.types_core.specs.declared.scheme.Scheme.{Ghosts}
 use Rattle.messages_certificates.specs.declared.artifact.Artifact.{Artifact}
+use Rattle.messages_certificates.specs.ProposalCertificate.{Finalization}
 use Rattle.types_terms.specs.declared.elector.Elector as elector
 use Rattle.journal_single.specs.declared.disk.Disk as disk
 use Rattle.journal_books.specs.declared.disks.Disks.{Disks}
@@ -48,20 +49,20 @@ module _ {S L D P G C K : Type 0} (g : Ghosts S D P G C) (e : elector.Ghosts L S
       (λ events replies runs. (runs.end, runs.run)) (λ events replies event why fails. (fails.runs.end, fails.runs.run)) r given text more
 
   -- behind the opening of a record, whose first reply was written
-  pub served_over : (Readable : Artifact S D P G C → Type 0) (on : Disks K) (now : ℕ) (node : Node S L D K P G C) (first : Reply S D P G C) (ReadFailed : Type 0) (r : Result ⊤ Ending) (given text mid more : Option (List ℕ))
-      → first.refused ≡ None → IsOpenAndSettled g e k f s Readable on now node first.actions.items → Appends text mid (w first)
+  pub served_over : (Readable : Artifact S D P G C → Type 0) (brought : Option (Finalization S D P G C)) (on : Disks K) (now : ℕ) (node : Node S L D K P G C) (first : Reply S D P G C) (ReadFailed : Type 0) (r : Result ⊤ Ending) (given text mid more : Option (List ℕ))
+      → first.refused ≡ None → IsOpenAndSettled g e k f s Readable brought on now node first.actions.items → Appends text mid (w first)
       → ((h : History S D P G C) → NodeKeeps g e k f s node h → (ended : Result ⊤ IoFault) × (r ≡ ended_of ended) × EndsIn F p w q (Answers g f s h) (AnswersBefore g f s h) ReadFailed ended given mid more)
-      → (ended : Result ⊤ IoFault) × (r ≡ ended_of ended) × ServesOver g k f s F p w q Readable on now ReadFailed ended given text more
-  served_over Readable on now node first ReadFailed r given text mid more taken settled whole serves =
+      → (ended : Result ⊤ IoFault) × (r ≡ ended_of ended) × ServesOver g k f s F p w q Readable brought on now ReadFailed ended given text more
+  served_over Readable brought on now node first ReadFailed r given text mid more taken settled whole serves =
       let this = serves settled.end settled.keeps in
-      (this.0, this.1, record { found = settled.found; are_found = settled.are_found; first = first; taken = taken; end = settled.end; opens = settled.opens; serves = inl (mid, whole, this.2) })
+      (this.0, this.1, record { found = settled.found; founded = settled.founded; are_found = settled.are.are_found; appends = settled.are.appends; first = first; taken = taken; end = settled.end; opens = settled.opens; serves = inl (mid, whole, this.2) })
 
   -- of which only a front was
-  pub served_not : (Readable : Artifact S D P G C → Type 0) (on : Disks K) (now : ℕ) (node : Node S L D K P G C) (first : Reply S D P G C) (ReadFailed : Type 0) (why : IoFault) (given text more : Option (List ℕ))
-      → first.refused ≡ None → IsOpenAndSettled g e k f s Readable on now node first.actions.items → (why ≡ fault.Memory) ⊎ (why ≡ fault.Write) → AppendsFront text more (w first)
-      → ServesOver g k f s F p w q Readable on now ReadFailed (broken_off why) given text more
-  served_not Readable on now node first ReadFailed why given text more taken settled faults front =
-      record { found = settled.found; are_found = settled.are_found; first = first; taken = taken; end = settled.end; opens = settled.opens; serves = inr (is_broken_off why faults, front) }
+  pub served_not : (Readable : Artifact S D P G C → Type 0) (brought : Option (Finalization S D P G C)) (on : Disks K) (now : ℕ) (node : Node S L D K P G C) (first : Reply S D P G C) (ReadFailed : Type 0) (why : IoFault) (given text more : Option (List ℕ))
+      → first.refused ≡ None → IsOpenAndSettled g e k f s Readable brought on now node first.actions.items → (why ≡ fault.Memory) ⊎ (why ≡ fault.Write) → AppendsFront text more (w first)
+      → ServesOver g k f s F p w q Readable brought on now ReadFailed (broken_off why) given text more
+  served_not Readable brought on now node first ReadFailed why given text more taken settled faults front =
+      record { found = settled.found; founded = settled.founded; are_found = settled.are.are_found; appends = settled.are.appends; first = first; taken = taken; end = settled.end; opens = settled.opens; serves = inr (is_broken_off why faults, front) }
 
 -- what a program comes to whose record was not opened, or whose node ran by the index that its scheme has
 pub comes_as : (own : Option ℕ) (index : ℕ) (ended : Result ⊤ Ending) (Untouched : Type 0) (Run : Result ⊤ IoFault → ℕ → Type 0) → own ≡ Some index

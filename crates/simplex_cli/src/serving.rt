@@ -6,7 +6,7 @@ ghost use Rattle.journal_books.specs.declared.disks.Disks.TheVariants.{One};
 ghost use Rattle.journal_books.specs.Books.{are_two};
 ghost use Rattle.simplex_member.specs.declared.fault.IoFault.{IoFault};
 ghost use Rattle.simplex_member.specs.declared.fault.OpenFault.{OpenFault};
-ghost use Rattle.simplex_member.specs.Setup.{setup_of};
+ghost use Rattle.simplex_member.specs.Setup.{brought_by, setup_of};
 ghost use Rattle.node_steps.specs.Keeps.{AtOwn, disks_of};
 ghost use Rattle.simplex_cli.specs.declared.ending.Ending.TheVariants.{Open};
 ghost use Rattle.simplex_cli.specs.Serving.{Answers, AnswersBefore, AreTold, ServesOver, ended_of};
@@ -49,7 +49,7 @@ pub fn serve_over<S: Scheme<D> + Drop, L: Elector<S, D>, D: Digest, K: Disk, R: 
         (result.0 ≡ ended_of ended) × (S.own scheme.value ≡ Some index) × ServesOver S.Scheme K.Disk
         (⟦<S as Speaks<D>>⟧.formats (S.size scheme.value)) (setup_of S.Scheme L.Elector config scheme.value elector index) D.fits D.spelling
         (spelled S.PublicKey.spelling D.spelling S.Signature.spelling S.Certificate.spelling) (D.reading 65535) ⟦<S as Speaks<D>>⟧.readable
-        (One disk) now (R.failed input.new ≡ counted false (R.failed input.old)) ended (R.remaining input.old) (W.contents output.old)
+        (brought_by config.floor) (One disk) now (R.failed input.new ≡ counted false (R.failed input.old)) ended (R.remaining input.old) (W.contents output.old)
         (W.contents output.new)) }
 {
     match open_io(alloc, config, scheme, elector, disk, now, output) {
