@@ -6,6 +6,7 @@ ghost use Rattle.messages_certificates.specs.Artifact.{artifact_spelling};
 ghost use Rattle.messages_certificates.specs.declared.artifact.Artifact.{Artifact};
 ghost use Rattle.messages_certificates.specs.declared.artifact.Artifact.TheVariants as artifact;
 ghost use Rattle.simplex_record.specs.declared.owner.Owner.{Owner};
+ghost use Rattle.simplex_record.specs.Lawful.{IsLawful};
 ghost use Rattle.simplex_record.specs.Record.{entry, entries};
 ghost use Rattle.simplex_record.specs.Rules.{MayFollow};
 ghost use Rattle.voter_rules.specs.declared.floor.FloorFault.{FloorFault};
@@ -14,7 +15,7 @@ ghost use Rattle.journal_books.specs.declared.disks.Disks.{Disks};
 ghost use Rattle.journal_books.specs.Books.{AreLeftAsTheyWere, HasFailed, HasNotFailed, IsForeignOn, Leave, LeaveBook, LeaveSince, MayBeRead};
 ghost use Rattle.simplex_member.specs.declared.fault.OpenFault.TheVariants as open_fault;
 ghost use Rattle.simplex_member.specs.Setup.{brought_by};
-ghost use Rattle.node_record.specs.Founding.{HoldsFloor, IsWithFloor, IsWithHigherFloor, MayBeFounded, OpensFrom};
+ghost use Rattle.node_record.specs.Founding.{HoldsBehind, IsReadBehind, MayBeFounded, OpensFrom};
 ghost use Rattle.node_record.specs.Ledger.{IsContradiction, KeepsRecord, book_of, disks_of};
 
 use crate::laws::a_ledger_at_rest_leaves_its_record;
@@ -23,7 +24,7 @@ use journal_books::Disks;
 use messages_certificates::{Artifact, Finalization};
 use simplex_journal::Disk;
 use simplex_member::{NodeFault, OpenFault};
-use simplex_record::Owner;
+use simplex_record::{Owner, a_lawful_record_grows};
 use std::alloc::Global;
 use types_core::{Digest, Duplicate, EncodeSize, Read, Scheme, Viewable, Write};
 use voter_rules::Floor;
@@ -100,56 +101,69 @@ impl<S: Scheme<D>, D: Digest, K: Disk> Ledger<S, D, K> {
             Ok(ledger) => match floor {
                 Floor::Genesis(_) => Ok(ledger),
                 Floor::Finalized(finalization) => {
-                    ledger.found(alloc, scheme.participants(), finalization)
+                    ledger.found(alloc, scheme, owner, finalization)
                 }
             },
             Err(refused) => Err(refused),
         }
     }
 
-    /// Records a finalization that an opening brings behind what it found, where it lies above all that is final there: of a member in
-    /// a committee of so many.
+    /// Records a finalization that an opening brings behind what it found, where it lies above all that is final there.
     fn found(
         self,
         alloc: Global,
-        members: u32,
+        scheme: &S,
+        owner: Owner,
         floor: &Finalization<S, D>,
     ) -> Result<Self, (OpenFault, Disks<K>)>
-        requires { members ≤ 65535 }
+        requires sound { (fault : FloorFault) → ¬ AppliesToFinal (S.certifies scheme.now) owner.term_length owner.epoch floor.now fault }
+        requires few { S.size scheme.now ≤ 65535 }
         ensures holds { IfOk result (λ ledger.
-            (scheme : S) (owner : Owner) (xs : List (Artifact S D S.PublicKey S.Signature S.Certificate))
-            → ((fault : FloorFault) → ¬ AppliesToFinal (S.certifies scheme) owner.term_length owner.epoch floor.now fault)
+            (xs : List (Artifact S D S.PublicKey S.Signature S.Certificate))
             → KeepsRecord K.Disk (artifact_spelling D.spelling S.Signature.spelling S.Certificate.spelling) owner self xs
-            → HoldsFloor K.Disk (artifact_spelling D.spelling S.Signature.spelling S.Certificate.spelling)
-            (Readable ⟦<Artifact<S, D> as Write>⟧.fits (⟦<Artifact<S, D> as Read>⟧.within members)) owner (Some floor.now) xs ledger) }
+            → IsLawful (S.attests scheme.now) (S.certifies scheme.now) owner xs
+            → HoldsBehind (Readable ⟦<Artifact<S, D> as Write>⟧.fits (⟦<Artifact<S, D> as Read>⟧.within (S.size scheme.now)))
+            (S.attests scheme.now) (S.certifies scheme.now) owner (Some floor.now)
+            (artifact_spelling D.spelling S.Signature.spelling S.Certificate.spelling) K.Disk xs ledger) }
         ensures any_moment { IfOk result (λ ledger.
-            (owner : Owner) (xs : List (Artifact S D S.PublicKey S.Signature S.Certificate)) (before : Disks K)
+            (xs : List (Artifact S D S.PublicKey S.Signature S.Certificate)) (before : Disks K)
             → KeepsRecord K.Disk (artifact_spelling D.spelling S.Signature.spelling S.Certificate.spelling) owner self xs
+            → IsLawful (S.attests scheme.now) (S.certifies scheme.now) owner xs
             → K.keeps
             → MayBeRead K.Disk before (map (artifact_spelling D.spelling S.Signature.spelling S.Certificate.spelling) xs)
             → LeaveSince K.Disk before (book_of self) (MayBeRead K.Disk before)
             → LeaveSince K.Disk before (book_of ledger) (λ read.
-            MayBeRead K.Disk before read ⊎ IsWithHigherFloor (artifact_spelling D.spelling S.Signature.spelling S.Certificate.spelling)
-            (Readable ⟦<Artifact<S, D> as Write>⟧.fits (⟦<Artifact<S, D> as Read>⟧.within members)) xs floor.now read)) }
+            MayBeRead K.Disk before read ⊎
+            IsReadBehind (Readable ⟦<Artifact<S, D> as Write>⟧.fits (⟦<Artifact<S, D> as Read>⟧.within (S.size scheme.now)))
+            (S.attests scheme.now) (S.certifies scheme.now) owner (Some floor.now)
+            (artifact_spelling D.spelling S.Signature.spelling S.Certificate.spelling) xs read)) }
         ensures any_moment_of_a_fault { IfErr result (λ refused.
-            (owner : Owner) (xs : List (Artifact S D S.PublicKey S.Signature S.Certificate)) (before : Disks K)
+            (xs : List (Artifact S D S.PublicKey S.Signature S.Certificate)) (before : Disks K)
             → KeepsRecord K.Disk (artifact_spelling D.spelling S.Signature.spelling S.Certificate.spelling) owner self xs
+            → IsLawful (S.attests scheme.now) (S.certifies scheme.now) owner xs
             → K.keeps
             → MayBeRead K.Disk before (map (artifact_spelling D.spelling S.Signature.spelling S.Certificate.spelling) xs)
             → LeaveSince K.Disk before (book_of self) (MayBeRead K.Disk before)
             → Leave K.Disk before refused.1 (λ read.
-            MayBeRead K.Disk before read ⊎ IsWithHigherFloor (artifact_spelling D.spelling S.Signature.spelling S.Certificate.spelling)
-            (Readable ⟦<Artifact<S, D> as Write>⟧.fits (⟦<Artifact<S, D> as Read>⟧.within members)) xs floor.now read)) }
+            MayBeRead K.Disk before read ⊎
+            IsReadBehind (Readable ⟦<Artifact<S, D> as Write>⟧.fits (⟦<Artifact<S, D> as Read>⟧.within (S.size scheme.now)))
+            (S.attests scheme.now) (S.certifies scheme.now) owner (Some floor.now)
+            (artifact_spelling D.spelling S.Signature.spelling S.Certificate.spelling) xs read)) }
         ensures faults { IfErr result (λ refused. (refused.0 ≡ open_fault.Device) ⊎ (refused.0 ≡ open_fault.Memory)) }
         ensures device { IfErr result (λ refused. refused.0 ≡ open_fault.Device → HasFailed K.Disk (disks_of self) refused.1) }
         ensures no_device { IfErr result (λ refused. refused.0 ≢ open_fault.Device → HasNotFailed K.Disk (disks_of self) refused.1) }
         ensures no_fault { IfOk result (λ ledger. HasNotFailed K.Disk (disks_of self) (disks_of ledger)) }
     {
+        a_lawful_record_grows::<S, D>();
         let mut ledger = self;
         if floor.view() <= ledger.recorded.last_finalized() {
             return Ok(ledger);
         }
-        match ledger.take_in(alloc, members, floor) {
+        // That it certifies was tested before any disk was touched (`check_floor`). The proof takes it from this test.
+        if !floor.verify(scheme) {
+            unreachable!()
+        }
+        match ledger.take_in(alloc, scheme.participants(), floor) {
             Ok(()) => Ok(ledger),
             Err(fault) => Err((fault, ledger.close())),
         }
@@ -177,8 +191,9 @@ impl<S: Scheme<D>, D: Digest, K: Disk> Ledger<S, D, K> {
             → K.keeps
             → LeaveBook K.Disk (book_of self.old) (book_of self.new) (λ read.
             (read ≡ map (artifact_spelling D.spelling S.Signature.spelling S.Certificate.spelling) xs) ⊎
-            IsWithFloor (artifact_spelling D.spelling S.Signature.spelling S.Certificate.spelling)
-            (Readable ⟦<Artifact<S, D> as Write>⟧.fits (⟦<Artifact<S, D> as Read>⟧.within members)) xs floor.now read) }
+            (Readable ⟦<Artifact<S, D> as Write>⟧.fits (⟦<Artifact<S, D> as Read>⟧.within members) (artifact.Finalization floor.now)
+            × (read ≡ map (artifact_spelling D.spelling S.Signature.spelling S.Certificate.spelling)
+            (xs ++ artifact.Finalization floor.now ∷ [])))) }
         ensures faults { IfErr result (λ why. (why ≡ open_fault.Device) ⊎ (why ≡ open_fault.Memory)) }
         ensures device { IsErrOf result OpenFault.Device → HasFailed K.Disk (disks_of self.old) (disks_of self.new) }
         ensures no_device { IfErr result (λ why. why ≢ open_fault.Device → HasNotFailed K.Disk (disks_of self.old) (disks_of self.new)) }

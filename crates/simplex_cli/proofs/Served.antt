@@ -55,14 +55,14 @@ module _ {S L D P G C K : Type 0} (g : Ghosts S D P G C) (e : elector.Ghosts L S
       → (ended : Result ⊤ IoFault) × (r ≡ ended_of ended) × ServesOver g k f s F p w q Readable brought on now ReadFailed ended given text more
   served_over Readable brought on now node first ReadFailed r given text mid more taken settled whole serves =
       let this = serves settled.end settled.keeps in
-      (this.0, this.1, record { found = settled.found; founded = settled.founded; are_found = settled.are.are_found; appends = settled.are.appends; first = first; taken = taken; end = settled.end; opens = settled.opens; serves = inl (mid, whole, this.2) })
+      (this.0, this.1, record { found = settled.found; founded = settled.founded; are_found = settled.are.are_found; appends = settled.are.appended.appends; first = first; taken = taken; end = settled.end; opens = settled.opens; serves = inl (mid, whole, this.2) })
 
   -- of which only a front was
   pub served_not : (Readable : Artifact S D P G C → Type 0) (brought : Option (Finalization S D P G C)) (on : Disks K) (now : ℕ) (node : Node S L D K P G C) (first : Reply S D P G C) (ReadFailed : Type 0) (why : IoFault) (given text more : Option (List ℕ))
       → first.refused ≡ None → IsOpenAndSettled g e k f s Readable brought on now node first.actions.items → (why ≡ fault.Memory) ⊎ (why ≡ fault.Write) → AppendsFront text more (w first)
       → ServesOver g k f s F p w q Readable brought on now ReadFailed (broken_off why) given text more
   served_not Readable brought on now node first ReadFailed why given text more taken settled faults front =
-      record { found = settled.found; founded = settled.founded; are_found = settled.are.are_found; appends = settled.are.appends; first = first; taken = taken; end = settled.end; opens = settled.opens; serves = inr (is_broken_off why faults, front) }
+      record { found = settled.found; founded = settled.founded; are_found = settled.are.are_found; appends = settled.are.appended.appends; first = first; taken = taken; end = settled.end; opens = settled.opens; serves = inr (is_broken_off why faults, front) }
 
 -- what a program comes to whose record was not opened, or whose node ran by the index that its scheme has
 pub comes_as : (own : Option ℕ) (index : ℕ) (ended : Result ⊤ Ending) (Untouched : Type 0) (Run : Result ⊤ IoFault → ℕ → Type 0) → own ≡ Some index
