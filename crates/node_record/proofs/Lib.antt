@@ -11,4 +11,4 @@ pub mod Quiet
 pub mod Beginning
 pub mod Built
 pub mod Rewriting
-pub mod Founding
+pub mod Appended

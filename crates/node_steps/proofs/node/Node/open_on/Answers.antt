@@ -10,7 +10,7 @@ use Rattle.simplex_member.specs.Setup.{IsInTime, setup_of}
 use Rattle.node_core.specs.SettingUp.{EndsActs}
 use Rattle.node_steps.specs.Keeps.{disks_of}
 use Rattle.node_steps.specs.Opening.{open_tests}
-use Rattle.node_steps.proofs.OfRecord.{never_device, never_early, never_late}
+use Rattle.node_steps.proofs.OfRecord.{never_device, never_early, never_late, never_memory}
 use Rattle.node_steps.proofs.Stepped.{left_at_index, left_back, told_late}
 use Rattle.node_steps.proofs.Whole.{open-by, ready-by}
 use Rattle.node_steps.proofs.node.Node.open_on.Goals as goal
@@ -31,8 +31,8 @@ returns-in-Err-clause-no_device g c = λ other. same_not_failed g.K.Disk c.args.
 pub returns-in-Err-clause-untouched : goal.returns-in-Err-clause-untouched
 returns-in-Err-clause-untouched g c = λ told. absurd (never_early c.in-Err.fault c.in-Err.ensures.early told)
 
-pub returns-in-Err-open-clause-untouched : goal.returns-in-Err-open-clause-untouched
-returns-in-Err-open-clause-untouched g c = λ told. c.in-Err-open.ensures.untouched (never_device c.in-Err-open.refused.0 told)
+pub returns-in-Err-open_from-clause-untouched : goal.returns-in-Err-open_from-clause-untouched
+returns-in-Err-open_from-clause-untouched g c = λ told. c.in-Err-open_from.ensures.untouched (never_device c.in-Err-open_from.refused.0 told) (never_memory c.in-Err-open_from.refused.0 told)
 
 pub returns-in-Err-open_over-clause-untouched : goal.returns-in-Err-open_over-clause-untouched
 returns-in-Err-open_over-clause-untouched g c = λ told. absurd (never_late c.in-Err-open_over.refused.0 (inl c.in-Err-open_over.ensures.memory.0) told)
@@ -41,18 +41,18 @@ pub returns-in-Ok-open_over-clause-untouched : goal.returns-in-Ok-open_over-clau
 returns-in-Ok-open_over-clause-untouched g c = IfErr-weaker c.begin.result _ _ (λ r late told. absurd (never_late r.0 late told)) c.begin.ensures.memory
 
 -- what the ledger left, where it did not open
-pub returns-in-Err-open-clause-any_moment_of_a_fault : goal.returns-in-Err-open-clause-any_moment_of_a_fault
-returns-in-Err-open-clause-any_moment_of_a_fault g c = λ index own keeps. leave_weaker g.K.Disk _ _ (λ read before. inl before) _ _ (c.in-Err-open.ensures.any_moment_of_a_fault keeps)
+pub returns-in-Err-open_from-clause-any_moment_of_a_fault : goal.returns-in-Err-open_from-clause-any_moment_of_a_fault
+returns-in-Err-open_from-clause-any_moment_of_a_fault g c = λ index own keeps. leave_weaker g.K.Disk _ _ (λ read before. inl before) _ _ (c.in-Err-open_from.ensures.any_moment_of_a_fault keeps)
 
 -- where the record could not be gone through, the disks are as the ledger left them
 pub returns-in-Err-open_over-clause-any_moment_of_a_fault : goal.returns-in-Err-open_over-clause-any_moment_of_a_fault
 returns-in-Err-open_over-clause-any_moment_of_a_fault g c = λ index own keeps.
     left_back g.K.Disk _ c.args.disks _ _ c.in-Err-open_over.ensures.memory.1
-    (leave_weaker g.K.Disk _ _ (λ read before. inl before) _ _ (since_leaves g.K.Disk (MayBeRead g.K.Disk c.args.disks) _ _ (λ read before. before) (c.in-Ok-open.ensures.any_moment keeps)))
+    (leave_weaker g.K.Disk _ _ (λ read before. inl before) _ _ (since_leaves g.K.Disk (MayBeRead g.K.Disk c.args.disks) _ _ (λ read before. before) (c.in-Ok-open_from.ensures.any_moment keeps)))
 
 -- behind the ledger no argument is wrong
-pub returns-in-Err-open-clause-later : goal.returns-in-Err-open-clause-later
-returns-in-Err-open-clause-later g c = λ none. subst (λ (z : g.row.S.Denot). IsFirst (open_tests g.S.Scheme (setup_of g.S.Scheme g.L.Elector c.args.config z c.args.elector 0) c.args.config c.args.now) None) c.deref.ensures c.in-Ok.ensures.good
+pub returns-in-Err-open_from-clause-later : goal.returns-in-Err-open_from-clause-later
+returns-in-Err-open_from-clause-later g c = λ none. subst (λ (z : g.row.S.Denot). IsFirst (open_tests g.S.Scheme (setup_of g.S.Scheme g.L.Elector c.args.config z c.args.elector 0) c.args.config c.args.now) None) c.deref.ensures c.in-Ok.ensures.good
 
 pub returns-in-Err-open_over-clause-later : goal.returns-in-Err-open_over-clause-later
 returns-in-Err-open_over-clause-later g c = λ none. subst (λ (z : g.row.S.Denot). IsFirst (open_tests g.S.Scheme (setup_of g.S.Scheme g.L.Elector c.args.config z c.args.elector 0) c.args.config c.args.now) None) c.deref.ensures c.in-Ok.ensures.good
@@ -82,15 +82,15 @@ returns-in-Ok-open_over-clause-contradiction g c =
 -- nor has a disk failed
 pub returns-in-Ok-open_over-clause-device : goal.returns-in-Ok-open_over-clause-device
 returns-in-Ok-open_over-clause-device g c =
-    IfErr-weaker c.begin.result _ _ (λ r told is. failed_then g.K.Disk _ _ _ c.in-Ok-open.ensures.no_fault (subst (λ (b : _). HasFailed g.K.Disk (words.disks_of b) r.1) c.in-Ok-open_over.ensures.book (told is))) c.begin.ensures.device
+    IfErr-weaker c.begin.result _ _ (λ r told is. failed_then g.K.Disk _ _ _ c.in-Ok-open_from.ensures.no_fault (subst (λ (b : _). HasFailed g.K.Disk (words.disks_of b) r.1) c.in-Ok-open_over.ensures.book (told is))) c.begin.ensures.device
 
 pub returns-in-Ok-open_over-clause-no_device : goal.returns-in-Ok-open_over-clause-no_device
 returns-in-Ok-open_over-clause-no_device g c =
-    IfErr-weaker c.begin.result _ _ (λ r told isnt. not_failed_then g.K.Disk _ _ _ c.in-Ok-open.ensures.no_fault (subst (λ (b : _). HasNotFailed g.K.Disk (words.disks_of b) r.1) c.in-Ok-open_over.ensures.book (told isnt))) c.begin.ensures.no_device
+    IfErr-weaker c.begin.result _ _ (λ r told isnt. not_failed_then g.K.Disk _ _ _ c.in-Ok-open_from.ensures.no_fault (subst (λ (b : _). HasNotFailed g.K.Disk (words.disks_of b) r.1) c.in-Ok-open_over.ensures.book (told isnt))) c.begin.ensures.no_device
 
 pub returns-in-Ok-open_over-clause-no_fault : goal.returns-in-Ok-open_over-clause-no_fault
 returns-in-Ok-open_over-clause-no_fault g c =
-    IfOk-weaker c.begin.result _ _ (λ r told. not_failed_then g.K.Disk _ _ _ c.in-Ok-open.ensures.no_fault (subst (λ (b : _). HasNotFailed g.K.Disk (words.disks_of b) (disks_of r.0)) c.in-Ok-open_over.ensures.book told)) c.begin.ensures.no_fault
+    IfOk-weaker c.begin.result _ _ (λ r told. not_failed_then g.K.Disk _ _ _ c.in-Ok-open_from.ensures.no_fault (subst (λ (b : _). HasNotFailed g.K.Disk (words.disks_of b) (disks_of r.0)) c.in-Ok-open_over.ensures.book told)) c.begin.ensures.no_fault
 
 -- the record that was opened may be gone through
 pub open_over-requires-clause-ready : goal.open_over-requires-clause-ready
@@ -102,8 +102,8 @@ open_over-requires-clause-ready g c =
     let settings = c.settings_of-settings.result in
     let size = g.S.Scheme.size c.args.scheme.value in (
       me,
-      ready-by g.S.Scheme g.L.Elector g.K.Disk (formats {S = g.row.S.Denot} {P = g.row.S-PublicKey.Denot} g.D.PartialEq.eq g.D.Write.spelling g.S.Signature.Write.spelling g.S.Certificate.Write.spelling g.D.Read.reading g.S.Signature.Read.reading g.S.Certificate.Read.reading size) c.args.config c.args.elector me _ c.args.disks c.args.now settings c.in-Ok-open.ledger
-          c.args.scheme.value settings.scheme.value c.deref-2.result.now c.settings_of-settings.ensures.scheme c.deref-2.ensures (c.settings_of-settings.ensures.set_up own ends) time c.in-Ok-open.ensures.opened,
+      ready-by g.S.Scheme g.L.Elector g.K.Disk (formats {S = g.row.S.Denot} {P = g.row.S-PublicKey.Denot} g.D.PartialEq.eq g.D.Write.spelling g.S.Signature.Write.spelling g.S.Certificate.Write.spelling g.D.Read.reading g.S.Signature.Read.reading g.S.Certificate.Read.reading size) c.args.config c.args.elector me _ c.args.disks c.args.now settings c.in-Ok-open_from.ledger
+          c.args.scheme.value settings.scheme.value c.deref-2.result.now c.settings_of-settings.ensures.scheme c.deref-2.ensures (c.settings_of-settings.ensures.set_up own ends) time c.in-Ok-open_from.ensures.opened,
     )
 
 pub returns-in-Ok-open_over-clause-opened : goal.returns-in-Ok-open_over-clause-opened
@@ -116,8 +116,8 @@ returns-in-Ok-open_over-clause-opened g c =
     let size = g.S.Scheme.size c.args.scheme.value in
     let s = λ (i : ℕ). setup_of g.S.Scheme g.L.Elector c.args.config c.args.scheme.value c.args.elector i in
     let is_open =
-    open-by g.S.Scheme g.L.Elector g.K.Disk (formats {S = g.row.S.Denot} {P = g.row.S-PublicKey.Denot} g.D.PartialEq.eq g.D.Write.spelling g.S.Signature.Write.spelling g.S.Certificate.Write.spelling g.D.Read.reading g.S.Signature.Read.reading g.S.Certificate.Read.reading size) c.args.config c.args.elector me _ c.args.disks c.args.now settings c.in-Ok-open.ledger c.in-Ok-open_over.node c.in-Ok-open_over.actions.items
-    c.args.scheme.value settings.scheme.value c.deref-2.result.now c.settings_of-settings.ensures.scheme c.deref-2.ensures (c.settings_of-settings.ensures.set_up own ends) time c.in-Ok-open.ensures.opened (c.in-Ok-open_over.ensures.opened c.args.disks size me) in
+    open-by g.S.Scheme g.L.Elector g.K.Disk (formats {S = g.row.S.Denot} {P = g.row.S-PublicKey.Denot} g.D.PartialEq.eq g.D.Write.spelling g.S.Signature.Write.spelling g.S.Certificate.Write.spelling g.D.Read.reading g.S.Signature.Read.reading g.S.Certificate.Read.reading size) c.args.config c.args.elector me _ c.args.disks c.args.now settings c.in-Ok-open_from.ledger c.in-Ok-open_over.node c.in-Ok-open_over.actions.items
+    c.args.scheme.value settings.scheme.value c.deref-2.result.now c.settings_of-settings.ensures.scheme c.deref-2.ensures (c.settings_of-settings.ensures.set_up own ends) time c.in-Ok-open_from.ensures.opened (c.in-Ok-open_over.ensures.opened c.args.disks size me) in
     IfOk-weaker c.begin.result _ _ (λ r settles. (me, own, settles size (s me) c.args.disks c.args.now refl is_open)) c.begin.ensures.opened
 
 pub returns-in-Ok-open_over-clause-any_moment : goal.returns-in-Ok-open_over-clause-any_moment
@@ -130,9 +130,9 @@ returns-in-Ok-open_over-clause-any_moment g c =
     let size = g.S.Scheme.size c.args.scheme.value in
     let s = λ (i : ℕ). setup_of g.S.Scheme g.L.Elector c.args.config c.args.scheme.value c.args.elector i in
     let is_open =
-    open-by g.S.Scheme g.L.Elector g.K.Disk (formats {S = g.row.S.Denot} {P = g.row.S-PublicKey.Denot} g.D.PartialEq.eq g.D.Write.spelling g.S.Signature.Write.spelling g.S.Certificate.Write.spelling g.D.Read.reading g.S.Signature.Read.reading g.S.Certificate.Read.reading size) c.args.config c.args.elector me _ c.args.disks c.args.now settings c.in-Ok-open.ledger c.in-Ok-open_over.node c.in-Ok-open_over.actions.items
-    c.args.scheme.value settings.scheme.value c.deref-2.result.now c.settings_of-settings.ensures.scheme c.deref-2.ensures (c.settings_of-settings.ensures.set_up own ends) time c.in-Ok-open.ensures.opened (c.in-Ok-open_over.ensures.opened c.args.disks size me) in
-    IfOk-weaker c.begin.result _ _ (λ r leaves index same keeps. left_at_index g.S.Scheme g.L.Elector g.K.Disk (formats {S = g.row.S.Denot} {P = g.row.S-PublicKey.Denot} g.D.PartialEq.eq g.D.Write.spelling g.S.Signature.Write.spelling g.S.Certificate.Write.spelling g.D.Read.reading g.S.Signature.Read.reading g.S.Certificate.Read.reading size) _ c.args.now s c.args.disks _ own same (leaves size (s me) c.args.disks c.args.now refl is_open keeps (subst (λ (b : _). LeaveSince g.K.Disk c.args.disks b (MayBeRead g.K.Disk c.args.disks)) (sym c.in-Ok-open_over.ensures.book) (c.in-Ok-open.ensures.any_moment keeps)))) c.begin.ensures.any_moment
+    open-by g.S.Scheme g.L.Elector g.K.Disk (formats {S = g.row.S.Denot} {P = g.row.S-PublicKey.Denot} g.D.PartialEq.eq g.D.Write.spelling g.S.Signature.Write.spelling g.S.Certificate.Write.spelling g.D.Read.reading g.S.Signature.Read.reading g.S.Certificate.Read.reading size) c.args.config c.args.elector me _ c.args.disks c.args.now settings c.in-Ok-open_from.ledger c.in-Ok-open_over.node c.in-Ok-open_over.actions.items
+    c.args.scheme.value settings.scheme.value c.deref-2.result.now c.settings_of-settings.ensures.scheme c.deref-2.ensures (c.settings_of-settings.ensures.set_up own ends) time c.in-Ok-open_from.ensures.opened (c.in-Ok-open_over.ensures.opened c.args.disks size me) in
+    IfOk-weaker c.begin.result _ _ (λ r leaves index same keeps. left_at_index g.S.Scheme g.L.Elector g.K.Disk (formats {S = g.row.S.Denot} {P = g.row.S-PublicKey.Denot} g.D.PartialEq.eq g.D.Write.spelling g.S.Signature.Write.spelling g.S.Certificate.Write.spelling g.D.Read.reading g.S.Signature.Read.reading g.S.Certificate.Read.reading size) _ c.args.now s c.args.disks _ own same (leaves size (s me) c.args.disks c.args.now refl is_open keeps (subst (λ (b : _). LeaveSince g.K.Disk c.args.disks b (MayBeRead g.K.Disk c.args.disks)) (sym c.in-Ok-open_over.ensures.book) (c.in-Ok-open_from.ensures.any_moment keeps)))) c.begin.ensures.any_moment
 
 pub returns-in-Ok-open_over-clause-any_moment_of_a_fault : goal.returns-in-Ok-open_over-clause-any_moment_of_a_fault
 returns-in-Ok-open_over-clause-any_moment_of_a_fault g c =
@@ -144,6 +144,6 @@ returns-in-Ok-open_over-clause-any_moment_of_a_fault g c =
     let size = g.S.Scheme.size c.args.scheme.value in
     let s = λ (i : ℕ). setup_of g.S.Scheme g.L.Elector c.args.config c.args.scheme.value c.args.elector i in
     let is_open =
-    open-by g.S.Scheme g.L.Elector g.K.Disk (formats {S = g.row.S.Denot} {P = g.row.S-PublicKey.Denot} g.D.PartialEq.eq g.D.Write.spelling g.S.Signature.Write.spelling g.S.Certificate.Write.spelling g.D.Read.reading g.S.Signature.Read.reading g.S.Certificate.Read.reading size) c.args.config c.args.elector me _ c.args.disks c.args.now settings c.in-Ok-open.ledger c.in-Ok-open_over.node c.in-Ok-open_over.actions.items
-    c.args.scheme.value settings.scheme.value c.deref-2.result.now c.settings_of-settings.ensures.scheme c.deref-2.ensures (c.settings_of-settings.ensures.set_up own ends) time c.in-Ok-open.ensures.opened (c.in-Ok-open_over.ensures.opened c.args.disks size me) in
-    IfErr-weaker c.begin.result _ _ (λ r leaves index same keeps. left_at_index g.S.Scheme g.L.Elector g.K.Disk (formats {S = g.row.S.Denot} {P = g.row.S-PublicKey.Denot} g.D.PartialEq.eq g.D.Write.spelling g.S.Signature.Write.spelling g.S.Certificate.Write.spelling g.D.Read.reading g.S.Signature.Read.reading g.S.Certificate.Read.reading size) _ c.args.now s c.args.disks _ own same (leaves size (s me) c.args.disks c.args.now refl is_open keeps (subst (λ (b : _). LeaveSince g.K.Disk c.args.disks b (MayBeRead g.K.Disk c.args.disks)) (sym c.in-Ok-open_over.ensures.book) (c.in-Ok-open.ensures.any_moment keeps)))) c.begin.ensures.any_moment_of_a_fault
+    open-by g.S.Scheme g.L.Elector g.K.Disk (formats {S = g.row.S.Denot} {P = g.row.S-PublicKey.Denot} g.D.PartialEq.eq g.D.Write.spelling g.S.Signature.Write.spelling g.S.Certificate.Write.spelling g.D.Read.reading g.S.Signature.Read.reading g.S.Certificate.Read.reading size) c.args.config c.args.elector me _ c.args.disks c.args.now settings c.in-Ok-open_from.ledger c.in-Ok-open_over.node c.in-Ok-open_over.actions.items
+    c.args.scheme.value settings.scheme.value c.deref-2.result.now c.settings_of-settings.ensures.scheme c.deref-2.ensures (c.settings_of-settings.ensures.set_up own ends) time c.in-Ok-open_from.ensures.opened (c.in-Ok-open_over.ensures.opened c.args.disks size me) in
+    IfErr-weaker c.begin.result _ _ (λ r leaves index same keeps. left_at_index g.S.Scheme g.L.Elector g.K.Disk (formats {S = g.row.S.Denot} {P = g.row.S-PublicKey.Denot} g.D.PartialEq.eq g.D.Write.spelling g.S.Signature.Write.spelling g.S.Certificate.Write.spelling g.D.Read.reading g.S.Signature.Read.reading g.S.Certificate.Read.reading size) _ c.args.now s c.args.disks _ own same (leaves size (s me) c.args.disks c.args.now refl is_open keeps (subst (λ (b : _). LeaveSince g.K.Disk c.args.disks b (MayBeRead g.K.Disk c.args.disks)) (sym c.in-Ok-open_over.ensures.book) (c.in-Ok-open_from.ensures.any_moment keeps)))) c.begin.ensures.any_moment_of_a_fault

@@ -1,6 +1,6 @@
 use Rattle.std.proofs.Common.{inl}
 use Rattle.journal_books.specs.BooksLaws.{book_weaker}
-use Rattle.node_record.proofs.founding.Ledger.take_in.Goals as goal
+use Rattle.node_record.proofs.ledger.Ledger.take_in.Goals as goal
 
 -- nothing was asked of a disk
 pub returns-in_default-clause-any_moment : goal.returns-in_default-clause-any_moment
