@@ -1,5 +1,5 @@
 -- A node that is opened, of its parts.
-use Rattle.std.proofs.Common.{◌≡◌, ◌⊎◌, inl, inr, ⊎_elim, ◌++◌, ◌∙◌, ℕ, false, List, refl, sym, ap, subst}
+use Rattle.std.proofs.Common.{◌≡◌, ◌<◌, ◌≤◌, ◌^◌, inl, inr, ⊎_elim, ◌++◌, ◌∙◌, ℕ, false, List, refl, sym, ap, subst, arith}
 use Rattle.std.specs.Prelude.{Option, map}
 use Rattle.types_core.specs.declared.scheme.Scheme.{Ghosts}
 use Rattle.types_core.specs.Subject.{Statement}
@@ -19,7 +19,7 @@ use Rattle.simplex_member.specs.Layers.{finalized_of}
 use Rattle.simplex_member.specs.Floors.{LawfulIsOpened}
 use Rattle.simplex_member.specs.Laws.{IsExact}
 use Rattle.simplex_member.specs.Packet.{Formats, IsRecordable}
-use Rattle.simplex_member.specs.Setup.{Setup, IsInTime, owner_of, setup_of}
+use Rattle.simplex_member.specs.Setup.{Setup, IsInTime, brought_by, owner_of, setup_of}
 use Rattle.node_core.specs.declared.layers.Layers.{Layers}
 use Rattle.node_steps.specs.declared.node.Node.{Node}
 use Rattle.node_core.specs.declared.settings.Settings.{Settings}
@@ -95,11 +95,11 @@ module _ {S L D P G C K : Type 0} (g : Ghosts S D P G C) (e : elector.Ghosts L S
 
 module _ {S D P G C K : Type 0} (k : disk.Ghosts K) (spelled : Artifact S D P G C → List ℕ) (Readable Can Could : Artifact S D P G C → Type 0)
     (attests : ℕ → Statement D → G → Type 0) (certifies : Statement D → C → Type 0) (owner : Owner) (brought : Option (Finalization S D P G C)) (on : Disks K)
-    (as : (x : Artifact S D P G C) → Can x → Could x) where
+    (into : (x : Artifact S D P G C) → Can x → Could x) where
   founded-as : (found founded : List (Artifact S D P G C)) → AreFounded k spelled Readable Can attests certifies owner brought on found founded → AreFounded k spelled Readable Could attests certifies owner brought on found founded
   founded-as found founded are = record {
     are_found = are.are_found;
-    appended = record { appends = are.appended.appends; recordable = λ x there. as x (are.appended.recordable x there); lawful = are.appended.lawful };
+    appended = record { appends = are.appended.appends; recordable = λ x there. into x (are.appended.recordable x there); lawful = are.appended.lawful };
   }
 
   pub opens-as : (ledger : Ledger S D K P G C) → OpensFrom k spelled Readable Can attests certifies owner brought on ledger → OpensFrom k spelled Readable Could attests certifies owner brought on ledger
@@ -117,3 +117,49 @@ left-by-opening g e k f s Readable brought on now law exact time read =
     (λ (found, founded, are, is).
     let opened = law now (found ++ founded) exact time are.appended.lawful in
     inr (found, founded, are, (opened.0, opened.1, opened.2, opened.3, is ∙ ap (map f.artifact) (sym opened.4))))
+
+-- ---- the same of a scheme that is found in several places
+
+module _ {S L D P G C K : Type 0} (g : Ghosts S D P G C) (e : elector.Ghosts L S D P G C) (k : disk.Ghosts K) (formats : ℕ → Formats S D P G C) (Readable : Artifact S D P G C → Type 0)
+    (Can : ℕ → Artifact S D P G C → Type 0) (into : (n : ℕ) → n < 2 ^ 32 → (x : Artifact S D P G C) → Can n x → IsRecordable (formats n) x)
+    (exact : (n : ℕ) → IsExact (formats n)) (law : (f : Formats S D P G C) (s : Setup S D C) → LawfulIsOpened g f s)
+    (c : Config (Floor S D P G C)) (l : L) (me : ℕ) (on : Disks K) (now : ℕ) (settings : Settings S) (own kept lent : S) (is : kept ≡ own) (same : lent ≡ kept) (few : g.size own ≤ 65535) where
+  -- the formats of the committee, and how the member is set up
+  abbrev its_formats : Formats S D P G C
+  its_formats = formats (g.size own)
+
+  abbrev its_setup : Setup S D C
+  its_setup = setup_of g e c own l me
+
+  size-is : g.size lent ≡ g.size own
+  size-is = ap g.size (same ∙ is)
+
+  can-be : (x : Artifact S D P G C) → Can (g.size lent) x → IsRecordable its_formats x
+  can-be x can = into (g.size own) (omega (arith, few)) x (subst (λ (n : ℕ). Can n x) size-is can)
+
+  module _ (set_up : IsSetUp its_setup settings) (time : IsInTime its_setup now) where
+    -- what may be read since before the ledger was opened
+    pub left-at-opening : (read : List (List ℕ))
+        → MayBeFounded k its_formats.artifact Readable (Can (g.size lent)) (g.attests lent) (g.certifies lent) settings.owner (brought_by c.floor) on read
+        → MayBeLeftOpen g e k its_formats its_setup Readable (brought_by c.floor) on now read
+    left-at-opening read may =
+        left-by-opening g e k its_formats its_setup Readable (brought_by c.floor) on now (law its_formats its_setup) (exact (g.size own)) time read
+        (subst (λ (o : Owner). MayBeFounded k its_formats.artifact Readable (IsRecordable its_formats) (g.attests own) (g.certifies own) o (brought_by c.floor) on read) set_up.owner_is
+        (subst (λ (x : S). MayBeFounded k its_formats.artifact Readable (IsRecordable its_formats) (g.attests x) (g.certifies x) settings.owner (brought_by c.floor) on read) (same ∙ is)
+        (read-as k its_formats.artifact Readable (Can (g.size lent)) (IsRecordable its_formats) (g.attests lent) (g.certifies lent) settings.owner (brought_by c.floor) on can-be read may)))
+
+    module _ (ledger : Ledger S D K P G C) (over : OpensFrom k its_formats.artifact Readable (Can (g.size lent)) (g.attests lent) (g.certifies lent) settings.owner (brought_by c.floor) on ledger) where
+      its_over : OpensFrom k its_formats.artifact Readable (IsRecordable its_formats) (g.attests lent) (g.certifies lent) settings.owner (brought_by c.floor) on ledger
+      its_over = opens-as k its_formats.artifact Readable (Can (g.size lent)) (IsRecordable its_formats) (g.attests lent) (g.certifies lent) settings.owner (brought_by c.floor) on can-be ledger over
+
+      -- the member may go through what it holds
+      pub through-at-opening : MayGoThrough g k its_formats.artifact (setup_of g e c kept l me) settings ledger now
+      through-at-opening =
+          through-by g e k its_formats (setup_of g e c kept l me) Readable (IsRecordable its_formats) (brought_by c.floor) on now settings ledger
+          (ready-by g e k its_formats c l me Readable (IsRecordable its_formats) (brought_by c.floor) on now settings ledger own kept lent is same set_up time its_over)
+
+      -- and then it is open
+      pub open-at-opening : (node : Node S L D K P G C) (actions : List (Action S D P G C))
+          → (IsSetUp (setup_of g e c kept l me) settings → IsInTime (setup_of g e c kept l me) now → OpensFrom k its_formats.artifact Readable (IsRecordable its_formats) (g.attests kept) (g.certifies kept) (owner_of (setup_of g e c kept l me)) (brought_by c.floor) on ledger → IsOpen g e k its_formats (setup_of g e c kept l me) Readable (brought_by c.floor) on now node actions)
+          → IsOpen g e k its_formats its_setup Readable (brought_by c.floor) on now node actions
+      open-at-opening node actions = open-by g e k its_formats c l me Readable (brought_by c.floor) on now settings ledger node actions own kept lent is same set_up time its_over
