@@ -7,12 +7,13 @@ use crate::medium::Medium;
 use crate::seat::Seat;
 use crate::setup::Setup;
 use crate::spelling::{event_of, say_actions, say_reply};
+use crate::starting::read_floor;
 use simplex_member::{Action, Event, Reply};
 use std::alloc::Global;
 use std::marker::PhantomData;
 use std::rc::Rc;
 use test_words::{Committee, Say, Trouble, Words};
-use types_core::Sha256Digest;
+use types_core::{Duplicate, Sha256Digest};
 use voter_rules::Floor;
 use voter_rules::config::Config;
 
@@ -27,12 +28,12 @@ pub trait Answers: Drop {
 
 /// A member with its disk, or with two, which the node has while it is open.
 #[derive(Drop)]
-pub struct Member<S, K, N, T> {
+pub struct Member<S: Committee, K, N, T> {
     setup: Setup,
     disk: Option<K>,
     second: Option<K>,
     node: Option<N>,
-    scheme: PhantomData<S>,
+    floor: Floor<S, Sha256Digest>,
     seat: PhantomData<T>,
 }
 
@@ -102,7 +103,7 @@ where
         now: u64,
         say: &mut Say,
     ) -> Result<(), Trouble> {
-        let config = self.setup.config();
+        let config = self.setup.config(self.floor.duplicate(say.alloc)?);
         match T::open_pair(say.alloc, &self.setup, config, scheme, first, second, now) {
             Ok((node, actions)) => {
                 self.node = Some(node);
@@ -118,7 +119,7 @@ where
 
     /// Opens the one disk.
     fn open_one(&mut self, scheme: Rc<S>, disk: K, now: u64, say: &mut Say) -> Result<(), Trouble> {
-        let config = self.setup.config();
+        let config = self.setup.config(self.floor.duplicate(say.alloc)?);
         match T::open(say.alloc, &self.setup, config, scheme, disk, now) {
             Ok((node, actions)) => {
                 self.node = Some(node);
@@ -138,6 +139,12 @@ where
             Ok(reply) => say_reply(&reply, say),
             Err(fault) => say_fault(fault, say),
         }
+    }
+
+    /// `floor FLOOR`: what the openings start from that come.
+    fn start_from(&mut self, words: &mut Words<'_>, say: &mut Say) -> Result<(), Trouble> {
+        self.floor = read_floor(say.alloc, words, self.setup.members)?;
+        say.ok()
     }
 
     /// `event EVENT`.
@@ -191,7 +198,7 @@ where
 
     /// `live NOW EVENTS NOW EVENTS ..`: what each opening answered, with ` , ` between two.
     fn live(&mut self, words: &mut Words<'_>, say: &mut Say) -> Result<(), Trouble> {
-        let lives = read_lives(&self.setup, words, say.alloc)?;
+        let lives = read_lives(&self.setup, &self.floor, words, say.alloc)?;
         self.close();
         let Some(disk) = self.disk.take() else {
             return Err(Trouble::Condition);
@@ -305,7 +312,7 @@ where
             disk: Some(K::holding(alloc, &[])?),
             second: None,
             node: None,
-            scheme: PhantomData,
+            floor: Floor::Genesis(Sha256Digest::new([0; 32])),
             seat: PhantomData,
         })
     }
@@ -317,6 +324,7 @@ where
             "times" => self.times(words, say),
             "stream" => self.stream(words, say),
             "live" => self.live(words, say),
+            "floor" => self.start_from(words, say),
             "disk" | "bytes" | "fuse" | "fail_at" => self.hold(name, words, say),
             _ => self.ask(name, words, say),
         }
