@@ -256,10 +256,10 @@ module _ {S D P G C : Type 0} (g : Ghosts S D P G C) (f : Formats S D P G C) (s 
     retry_known = none.retry_known;
   }
 
-  given-back : (handoff : Bool) (context : Context D P) → IsGivenBack g f s (Rewrote c ∷ h) handoff context → IsGivenBack g f s h handoff context
-  given-back handoff context (inl over) =
+  given-back : (ahead : Bool) (context : Context D P) → IsGivenBack g f s (Rewrote c ∷ h) ahead context → IsGivenBack g f s h ahead context
+  given-back ahead context (inl over) =
       inl (was (λ k. IsSuperseded (member_of s) k context.round.view context.parent.0 context.parent.1) (superseded (member_of s) (known_of s h) high low context.round.view context.parent.0 context.parent.1) over)
-  given-back handoff context (inr (handed, why, stopped)) =
+  given-back ahead context (inr (handed, (why, stopped))) =
       inr (handed, why, was (λ k. StopsHandoff (member_of s) k context.round.view context.parent.0 context.parent.1 (Some why)) (stops (member_of s) (known_of s h) high low context.round.view context.parent.0 context.parent.1 why) stopped)
 
   requests-still : NoRequestIsDue g f s h → NoRequestIsDue g f s (Rewrote c ∷ h)
@@ -267,13 +267,13 @@ module _ {S D P G C : Type 0} (g : Ghosts S D P G C) (f : Formats S D P G C) (s 
     no_build = λ left view parent payload due. none.no_build left view parent payload (was (λ k. BuildIsDue (member_of s) k view parent payload) (build-due (member_of s) (known_of s h) high low view parent payload) due);
     no_verify = λ left view p payload due. none.no_verify left view p payload (was (λ k. VerifyIsDue (member_of s) k view p payload) (verify-due (member_of s) (known_of s h) high low view p payload) due);
     no_certify = λ p due. none.no_certify p (was (λ k. CertifyIsDue (member_of s) k p.round.view p) (certify-due (member_of s) (known_of s h) high low p.round.view p) due);
-    no_return = λ number handoff context there back. none.no_return number handoff context there (given-back handoff context back);
+    no_return = λ number ahead context there back. none.no_return number ahead context there (given-back ahead context back);
     none_behind = none.none_behind;
   }
 
   sought : (view : ℕ) (ask : Ask) → IsSought g f s (Rewrote c ∷ h) view ask None → IsSought g f s h view ask None
   sought view ask (inl backward) = inl backward
-  sought view ask (inr (is, waiting, wanted)) =
+  sought view ask (inr (is, (waiting, wanted))) =
       inr (is, waiting, was (λ k. CertificateIsWanted (member_of s) k waiting view) (certificate-wanted (member_of s) (known_of s h) high low waiting view) wanted)
 
   asks-still : NoAskIsDue g f s h → NoAskIsDue g f s (Rewrote c ∷ h)

@@ -128,8 +128,8 @@ module _ {S D P G C : Type 0} where
   current-put views xs ys (Some x) same = let one = enters-last views xs x in let two = enters-last views ys x in omega (arith, same, one, two)
 
   begun-before : (p : Point S D P G C) (h : History S D P G C) → is_begun (p ∷ h) ≡ false → is_begun h ≡ false
-  begun-before Began h no = absurd (apart (sym no))
-  begun-before p h no = no
+  begun-before Began h unbegun = absurd (apart (sym unbegun))
+  begun-before p h unbegun = unbegun
 
 module _ {S D P G C : Type 0} (g : Ghosts S D P G C) (f : Formats S D P G C) (s : Setup S D C) where
   abbrev kept : History S D P G C → List (Artifact S D P G C)
@@ -208,9 +208,9 @@ module _ {S D P G C : Type 0} (g : Ghosts S D P G C) (f : Formats S D P G C) (s 
   -- ---- before the record was gone through, and where terms have no views, nothing is rewritten
 
   unbegun-kept : (h : History S D P G C) → AreAllowed g f s h → is_begun h ≡ false → kept h ≡ record_of h
-  unbegun-kept [] all no = refl
-  unbegun-kept (p ∷ h) all no =
-      let before = begun-before p h no in
+  unbegun-kept [] all unbegun = refl
+  unbegun-kept (p ∷ h) all unbegun =
+      let before = begun-before p h unbegun in
       ⊎_elim
       (λ rewrote.
       let a : Allowed g f s h (Rewrote rewrote.0) = subst (λ (q : Point S D P G C). Allowed g f s h q) rewrote.1 all.0 in
@@ -298,7 +298,7 @@ module _ {S D P G C : Type 0} (g : Ghosts S D P G C) (f : Formats S D P G C) (s 
           fits = if-some (MayRecord g f s h) (recorded_by p) x all.0.fits is
 
           by : (b : Bool) → is_begun h ≡ b → Fits (g.attests s.voter.scheme) (g.certifies s.voter.scheme) (owner_of s) (kept h) x
-          by false no = subst (λ (l : List (Artifact S D P G C)). Fits (g.attests s.voter.scheme) (g.certifies s.voter.scheme) (owner_of s) l x) (sym (unbegun-kept h all.1 no)) fits
+          by false unbegun = subst (λ (l : List (Artifact S D P G C)). Fits (g.attests s.voter.scheme) (g.certifies s.voter.scheme) (owner_of s) l x) (sym (unbegun-kept h all.1 unbegun)) fits
           by true begun = ⊎_elim
               (λ some. record {
                 verifies = fits.verifies;
