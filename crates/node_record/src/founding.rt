@@ -156,7 +156,9 @@ impl<S: Scheme<D>, D: Digest, K: Disk> Ledger<S, D, K> {
     {
         a_lawful_record_grows::<S, D>();
         let mut ledger = self;
-        if floor.view() <= ledger.recorded.last_finalized() {
+        let view = floor.view();
+        let last = ledger.recorded.last_finalized();
+        if view <= last {
             return Ok(ledger);
         }
         // That it certifies was tested before any disk was touched (`check_floor`). The proof takes it from this test.
