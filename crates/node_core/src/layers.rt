@@ -6,7 +6,7 @@ ghost use Rattle.simplex_member.specs.declared.action.Action.{Action};
 ghost use Rattle.simplex_member.specs.Deeds.{AreActions, Reports};
 ghost use Rattle.simplex_member.specs.Point.{Began, Opened};
 ghost use Rattle.simplex_member.specs.Recorded.{record_of, reported};
-ghost use Rattle.simplex_member.specs.Setup.{Setup, IsInTime, genesis_of, setup_of};
+ghost use Rattle.simplex_member.specs.Setup.{Setup, IsInTime, setup_of};
 ghost use Rattle.node_core.specs.SettingUp.{IsSetUp};
 ghost use Rattle.node_core.specs.GoingThrough.{AreNew, HasBegun, IsGoneThrough, IsRecordOf, StandAt, deeds_along};
 ghost use Rattle.node_core.specs.Recalling.{GoesThrough, IsReady, MayBegin};

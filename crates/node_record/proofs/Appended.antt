@@ -1,8 +1,8 @@
 -- What an opening brings, behind what it found.
-use Rattle.std.proofs.Common.{◌≡◌, ◌≤◌, ◌<◌, ◌+◌, ◌*◌, ◌^◌, ◌⊎◌, ◌++◌, ◌∙◌, inl, inr, ⊎_elim, ℕ, Bool, true, false, List, [], ◌∷◌, Some, None, refl, sym, ap, subst, map, arith, if◌then◌else◌}
-use Rattle.std.specs.Prelude.{Contains, Option, nat_lt}
+use Rattle.std.proofs.Common.{◌≡◌, ◌≤◌, ◌<◌, ◌+◌, ◌*◌, ◌^◌, ◌⊎◌, ◌++◌, inl, inr, ⊎_elim, ℕ, Bool, true, false, List, [], ◌∷◌, Some, refl, sym, ap, subst, map, arith, if◌then◌else◌}
+use Rattle.std.specs.Prelude.{Contains, nat_lt}
 use Rattle.std.proofs.lemmas.Bool.{cases_eq, cases_lt, lt-ltb, ltb-true}
-use Rattle.std.proofs.lemmas.List.{append-nil, map-append}
+use Rattle.std.proofs.lemmas.List.{append-nil}
 use Rattle.types_quorum.specs.Counting.{Contains-cases, Contains-nil}
 use Rattle.types_core.specs.Positions.{next_term_start}
 use Rattle.types_core.specs.Subject.{Statement, notarize, nullify, finalize}

@@ -12,7 +12,7 @@ use Rattle.types_terms.specs.declared.elector.Elector as elector
 use Rattle.journal_single.specs.declared.disk.Disk as disk
 use Rattle.journal_books.specs.declared.disks.Disks.{Disks}
 use Rattle.node_record.specs.declared.ledger.Ledger.{Ledger}
-use Rattle.node_record.specs.Founding.{AreFounded, IsAppended, MayBeFounded, OpensFrom}
+use Rattle.node_record.specs.Founding.{AreFounded, MayBeFounded, OpensFrom}
 use Rattle.node_record.specs.Ledger.{KeepsRecord}
 use Rattle.simplex_member.specs.declared.action.Action.{Action}
 use Rattle.simplex_member.specs.Layers.{finalized_of}

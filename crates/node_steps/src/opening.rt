@@ -7,7 +7,7 @@ ghost use Rattle.voter_rules.specs.declared.floor.FloorFault.{FloorFault};
 ghost use Rattle.voter_rules.specs.Floor.{AppliesToFloor};
 ghost use Rattle.journal_books.specs.declared.disks.Disks.{Disks};
 ghost use Rattle.journal_books.specs.declared.disks.Disks.TheVariants.{One, Two};
-ghost use Rattle.journal_books.specs.Books.{AreLeftAsTheyWere, HasFailed, HasNotFailed, IsForeignOn, Leave, LeaveSince, MayBeRead, are_two};
+ghost use Rattle.journal_books.specs.Books.{AreLeftAsTheyWere, HasFailed, HasNotFailed, IsForeignOn, Leave, LeaveSince, are_two};
 ghost use Rattle.node_record.specs.Ledger as ledgers;
 ghost use Rattle.node_record.specs.Founding.{OpensFrom};
 ghost use Rattle.node_record.specs.Ledger.{IsContradiction};

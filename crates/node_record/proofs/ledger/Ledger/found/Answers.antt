@@ -1,4 +1,4 @@
-use Rattle.std.proofs.Common.{◌≡◌, ◌≤◌, ◌<◌, ◌++◌, ◌∷◌, [], inl, ℕ, List, sym, subst, arith}
+use Rattle.std.proofs.Common.{◌<◌, ◌∷◌, [], inl, ℕ, List, sym, subst, arith}
 use Rattle.std.proofs.lemmas.Bool.Decides.{nat_tests}
 use Rattle.std.proofs.lemmas.List.{append-nil}
 use Rattle.types_codec.specs.Codec.{Readable}
@@ -8,7 +8,7 @@ use Rattle.messages_certificates.specs.declared.artifact.Artifact.TheVariants as
 use Rattle.voter_rules.specs.declared.floor.FloorFault.TheVariants as fault
 use Rattle.simplex_record.specs.Record.{entries, last_finalized}
 use Rattle.journal_books.specs.declared.disks.Disks.{Disks}
-use Rattle.journal_books.specs.Books.{Leave, LeaveBook}
+use Rattle.journal_books.specs.Books.{Leave}
 use Rattle.journal_books.specs.BooksLaws.{since_leaves, since_weaker}
 use Rattle.node_record.specs.Ledger.{KeepsRecord}
 use Rattle.node_record.proofs.Appended.{May, appended-none, appended-one, fits-behind, since-behind}

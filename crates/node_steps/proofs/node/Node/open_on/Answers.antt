@@ -1,11 +1,10 @@
-use Rattle.std.proofs.Common.{◌≡◌, ◌≤◌, ⊎_elim, inl, ℕ, [], refl, sym, ◌∙◌, ap, subst, false, Some, None}
+use Rattle.std.proofs.Common.{◌≡◌, ◌≤◌, ⊎_elim, inl, ℕ, refl, sym, ◌∙◌, subst, Some, None}
 use Rattle.std.proofs.lemmas.Result.{IfErr-weaker, IfOk-weaker}
 use Rattle.types_codec.specs.Codec.{Readable}
 use Rattle.messages_certificates.specs.Artifact.{artifact_fits, artifact_within}
 use Rattle.simplex_record.specs.declared.owner.Owner.{Owner}
 use Rattle.voter_rules.specs.declared.floor.FloorFault.{FloorFault}
 use Rattle.voter_rules.specs.Floor.{AppliesToFloor}
-use Rattle.journal_books.specs.declared.disks.Disks.{Disks}
 use Rattle.journal_books.specs.Books as words
 use Rattle.journal_books.specs.Books.{HasFailed, HasNotFailed, LeaveSince}
 use Rattle.journal_books.specs.BooksLaws.{failed_then, leave_weaker, not_failed_then, same_not_failed, since_leaves, since_weaker}
