@@ -7,7 +7,7 @@
 //!   for a STALL or SKIP that never comes; BUDGET is how many terms may be skipped, `-` for as many as there are members;
 //!   FORWARD is `disabled`, `silent-voters` or `silent-leader`; HANDOFFS is 1: no node goes without
 //! - `floor FLOOR`: what the openings start from that come, `genesis PAYLOAD`, as without this call that of zeros, or
-//!   `finalization CERTIFICATE`
+//!   `finalization CERTIFICATE`, or `spelled BYTES`
 //! - `open NOW`: closes the node that is open, opens the disk, and tells the first actions as a reply, or `fault NUMBER`,
 //!   behind it what else is told: of a configuration and of what it starts from the number of the fault, of an artifact its place or position
 //! - `event EVENT`: the reply, or `fault NUMBER`; `times COUNT event EVENT`: so many times, and what is answered each time

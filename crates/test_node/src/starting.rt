@@ -7,7 +7,8 @@ use test_words::{Committee, Trouble, Words};
 use types_core::Sha256Digest;
 use voter_rules::Floor;
 
-/// `genesis PAYLOAD` or `finalization CERTIFICATE`, to the line's end, in a committee of so many.
+/// `genesis PAYLOAD`, `finalization CERTIFICATE`, or `spelled BYTES` for one that is spelled, whoever signed it: to the line's end, in a
+/// committee of so many.
 pub(crate) fn read_floor<S: Committee>(
     alloc: Global,
     words: &mut Words<'_>,
@@ -19,6 +20,10 @@ pub(crate) fn read_floor<S: Committee>(
             let finalization: Finalization<S, Sha256Digest> = words.finalization::<S>(
                 alloc, members,
             )?;
+            Floor::Finalized(finalization)
+        }
+        "spelled" => {
+            let finalization: Finalization<S, Sha256Digest> = words.value(alloc, members)?;
             Floor::Finalized(finalization)
         }
         _ => return Err(Trouble::Unreadable),
