@@ -1,8 +1,8 @@
 -- What an opening brings, behind what it found.
-use Rattle.std.proofs.Common.{◌≡◌, ◌≤◌, ◌<◌, ◌+◌, ◌*◌, ◌^◌, ◌⊎◌, ◌++◌, inl, inr, ⊎_elim, ℕ, Bool, true, false, List, [], ◌∷◌, Some, refl, sym, ap, subst, map, arith, if◌then◌else◌}
+use Rattle.std.proofs.Common.{◌≡◌, ◌≤◌, ◌<◌, ◌+◌, ◌*◌, ◌^◌, ◌⊎◌, ◌++◌, ◌∙◌, inl, inr, ⊎_elim, ℕ, Bool, true, false, List, [], ◌∷◌, Some, refl, sym, ap, subst, map, arith, if◌then◌else◌}
 use Rattle.std.specs.Prelude.{Contains, nat_lt}
 use Rattle.std.proofs.lemmas.Bool.{cases_eq, cases_lt, lt-ltb, ltb-true}
-use Rattle.std.proofs.lemmas.List.{append-nil}
+use Rattle.std.proofs.lemmas.List.{append-nil, map-append}
 use Rattle.types_quorum.specs.Counting.{Contains-cases, Contains-nil}
 use Rattle.types_core.specs.Positions.{next_term_start}
 use Rattle.types_core.specs.Subject.{Statement, notarize, nullify, finalize}
@@ -19,7 +19,7 @@ use Rattle.simplex_record.specs.Rules.{AreAlike}
 use Rattle.journal_single.specs.declared.disk.Disk as disk
 use Rattle.journal_books.specs.declared.books.Books.{Books}
 use Rattle.journal_books.specs.declared.disks.Disks.{Disks}
-use Rattle.journal_books.specs.Books.{LeaveBook, LeaveSince, MayBeRead}
+use Rattle.journal_books.specs.Books.{IsWithOrWithout, LeaveBook, LeaveSince, MayBeRead}
 use Rattle.journal_books.specs.BooksLaws.{book_weaker, since_then, since_weaker}
 use Rattle.simplex_member.specs.Member.{AppendsFloor}
 use Rattle.node_record.specs.Founding.{IsAppended, IsReadBehind}
@@ -98,3 +98,12 @@ module _ {S D P G C : Type 0} (attests : ℕ → Statement D → G → Type 0) (
           (since_weaker k (MayBeRead k before) May (λ read is. inl is) before old one)
           (book_weaker k (λ read. (read ≡ map spelled xs) ⊎ (Recordable (artifact.Finalization c) × (read ≡ map spelled (xs ++ artifact.Finalization c ∷ [])))) May
           (λ read. ⊎_elim (λ is. inl (subst (MayBeRead k before) (sym is) may)) (λ is. inr (artifact.Finalization c ∷ [], appended-one xs lawful above is.0, is.1))) old new other)
+
+-- what a crash leaves while a copy of it is recorded
+pub copy-behind : {S D P G C K : Type 0} (k : disk.Ghosts K) (spelled : Artifact S D P G C → List ℕ) (Recordable : Artifact S D P G C → Type 0) (xs : List (Artifact S D P G C)) (c copy : Finalization S D P G C) (old new : Books (Artifact S D P G C) K)
+    → copy ≡ c → Recordable (artifact.Finalization copy) → LeaveBook k old new (IsWithOrWithout (map spelled xs) (spelled (artifact.Finalization copy)))
+    → LeaveBook k old new (λ read. (read ≡ map spelled xs) ⊎ (Recordable (artifact.Finalization c) × (read ≡ map spelled (xs ++ artifact.Finalization c ∷ []))))
+copy-behind {S} {D} {P} {G} {C} k spelled Recordable xs c copy old new same can leaves =
+    subst (λ (d : Finalization S D P G C). LeaveBook k old new (λ read. (read ≡ map spelled xs) ⊎ (Recordable (artifact.Finalization d) × (read ≡ map spelled (xs ++ artifact.Finalization d ∷ []))))) same
+    (book_weaker k (IsWithOrWithout (map spelled xs) (spelled (artifact.Finalization copy))) _
+    (λ read. ⊎_elim (λ is. inl is) (λ is. inr (can, is ∙ sym (map-append spelled xs (artifact.Finalization copy ∷ []))))) old new leaves)
