@@ -260,7 +260,7 @@ module _ {S D P G C : Type 0} (g : Ghosts S D P G C) (f : Formats S D P G C) (s 
   given-back ahead context (inl over) =
       inl (was (λ k. IsSuperseded (member_of s) k context.round.view context.parent.0 context.parent.1) (superseded (member_of s) (known_of s h) high low context.round.view context.parent.0 context.parent.1) over)
   given-back ahead context (inr (handed, (why, stopped))) =
-      inr (handed, why, was (λ k. StopsHandoff (member_of s) k context.round.view context.parent.0 context.parent.1 (Some why)) (stops (member_of s) (known_of s h) high low context.round.view context.parent.0 context.parent.1 why) stopped)
+      inr (handed, (why, was (λ k. StopsHandoff (member_of s) k context.round.view context.parent.0 context.parent.1 (Some why)) (stops (member_of s) (known_of s h) high low context.round.view context.parent.0 context.parent.1 why) stopped))
 
   requests-still : NoRequestIsDue g f s h → NoRequestIsDue g f s (Rewrote c ∷ h)
   requests-still none = record {
@@ -274,7 +274,7 @@ module _ {S D P G C : Type 0} (g : Ghosts S D P G C) (f : Formats S D P G C) (s 
   sought : (view : ℕ) (ask : Ask) → IsSought g f s (Rewrote c ∷ h) view ask None → IsSought g f s h view ask None
   sought view ask (inl backward) = inl backward
   sought view ask (inr (is, (waiting, wanted))) =
-      inr (is, waiting, was (λ k. CertificateIsWanted (member_of s) k waiting view) (certificate-wanted (member_of s) (known_of s h) high low waiting view) wanted)
+      inr (is, (waiting, was (λ k. CertificateIsWanted (member_of s) k waiting view) (certificate-wanted (member_of s) (known_of s h) high low waiting view) wanted))
 
   asks-still : NoAskIsDue g f s h → NoAskIsDue g f s (Rewrote c ∷ h)
   asks-still none = record {
