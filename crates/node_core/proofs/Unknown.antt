@@ -4,7 +4,6 @@ use Rattle.std.specs.Prelude.{◌==◌, ◌||◌, ◌&&◌, Option, Some, None, 
 use Rattle.std.specs.Option.{option_or}
 use Rattle.std.proofs.lemmas.Bool.{le-ltb}
 use Rattle.types_core.specs.declared.scheme.Scheme.{Ghosts}
-use Rattle.types_core.specs.declared.proposal.Proposal.{Proposal}
 use Rattle.types_core.specs.Positions.{term_end}
 use Rattle.types_core.specs.Subject.{Statement, notarize, nullify, finalize}
 use Rattle.messages_certificates.specs.declared.certificate.Certificate.{Certificate}

@@ -159,7 +159,7 @@ pub fn give<S: Scheme<D> + Drop, L: Elector<S, D>, D: Digest>(
 }
 
 /// Whether the voter knows a certificate of this one's kind and view.
-pub fn knows_like<S: Scheme<D>, L: Elector<S, D>, D: Digest>(
+pub fn knows_like<S: Scheme<D> + Drop, L: Elector<S, D>, D: Digest>(
     voter: &Voter<S, L, D>,
     certificate: &Certificate<S, D>,
 ) -> bool

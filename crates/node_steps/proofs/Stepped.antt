@@ -27,7 +27,7 @@ use Rattle.simplex_member.specs.Member.{AreOpening, AreStep, Goes, IsOpened, IsP
 use Rattle.simplex_member.specs.First.{IsFirst}
 use Rattle.simplex_member.specs.Packet.{Formats}
 use Rattle.simplex_member.specs.Point.{Point, AreActs, Began, Opened, History}
-use Rattle.simplex_member.specs.Recorded.{kept_of, record_of}
+use Rattle.simplex_member.specs.Recorded.{kept_of}
 use Rattle.simplex_member.specs.Refusals.{tests}
 use Rattle.simplex_member.specs.Setup.{Setup}
 use Rattle.node_core.specs.GoingThrough as reading

@@ -1,6 +1,6 @@
 -- Where the record begins behind another view, nothing more is due: all that is due rests on what else is known, but that a vote to
 -- notarize is due of views behind that one alone.
-use Rattle.std.proofs.Common.{◌≡◌, ◌≢◌, ◌⊎◌, inl, inr, ⊎_elim, ℕ, ◌<◌, ◌≤◌, ◌-◌, ◌+◌, Bool, true, false, List, [], ◌∷◌, Option, Some, None, refl, sym, ◌∙◌, ap, subst, arith}
+use Rattle.std.proofs.Common.{◌≡◌, ◌⊎◌, inl, inr, ⊎_elim, ℕ, ◌<◌, ◌≤◌, ◌-◌, ◌+◌, Bool, ◌∷◌, Option, Some, None, sym, ◌∙◌, ap, subst, arith}
 use Rattle.std.specs.Prelude.{IsSome, max}
 use Rattle.types_core.specs.declared.context.Context.{Context}
 use Rattle.types_core.specs.declared.proposal.Proposal.{Proposal}
@@ -11,20 +11,19 @@ use Rattle.voter_history.specs.declared.handoff_abandoned_reason.HandoffAbandone
 use Rattle.voter_history.specs.declared.timeout_reason.TimeoutReason.{TimeoutReason}
 use Rattle.voter_history.specs.declared.timeout_reason.TimeoutReason.TheVariants as reason
 use Rattle.voter_history.specs.History as views
-use Rattle.voter_history.specs.History.{based}
 use Rattle.voter_history.specs.Known.{Known, known}
 use Rattle.voter_history.specs.Leaders.{leader}
 use Rattle.voter_rules.specs.Ancestry.{Member, IsFirstUncovered, InWindow, IsHandoffParent, IsVotedFor, Optimistic, at_start, by_certificate, by_own_vote, Supports, IsSpan, IsParent, LacksPayload, IsPredecessor, IsLastCertified, IsHandedOver, IsPreferred, Leads, Stands, IsSteady, IsRequired}
-use Rattle.voter_rules.specs.GivingUp.{MayLatch, NullifyIsDue}
-use Rattle.voter_rules.specs.Requests.{IsOpen, BuildIsDue, IsCaptured, IsSuperseded, StopsHandoff, WaitsForParent, VerifyIsDue, IsInvalid, NullificationIsWanted, NotarizationIsWanted, VerdictIsOpen, CertifyIsDue, CertifyWaits, IsPutOff, CertificateIsWanted}
+use Rattle.voter_rules.specs.GivingUp.{MayLatch}
+use Rattle.voter_rules.specs.Requests.{IsOpen, BuildIsDue, IsCaptured, IsSuperseded, StopsHandoff, WaitsForParent, VerifyIsDue, IsInvalid, VerdictIsOpen, CertifyIsDue, CertifyWaits, IsPutOff, CertificateIsWanted}
 use Rattle.voter_rules.specs.VotesDue.{NotarizeIsDue, FinalizeIsDue}
 use Rattle.voter_laws.specs.Matching.{BaseChangesFloorAlone}
 use Rattle.voter_laws.specs.Missing.{IsMissing}
 use Rattle.simplex_resolver.specs.declared.ask.Ask.{Ask}
 use Rattle.simplex_resolver.specs.declared.ask.Kind as repair
 use Rattle.simplex_resolver.specs.declared.ask.Kind.TheVariants as repair_kind
-use Rattle.simplex_member.specs.Allowed.{AskIsDue, HasReason, IsGivenBack, IsSilent, IsSought, IsStopped, LatchIsDue, LeaderGaveUp}
-use Rattle.simplex_member.specs.Layers.{known_of, latest, voter_of}
+use Rattle.simplex_member.specs.Allowed.{HasReason, IsGivenBack, IsSought}
+use Rattle.simplex_member.specs.Layers.{known_of, voter_of}
 use Rattle.simplex_member.specs.Member.{NoAskIsDue, NoConstructionIsDue, NoRequestIsDue, NoVoteIsDue, NoneDue}
 use Rattle.simplex_member.specs.Packet.{Formats}
 use Rattle.simplex_member.specs.Point.{Rewrote, History}

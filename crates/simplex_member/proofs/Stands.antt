@@ -8,7 +8,7 @@ use Rattle.types_core.specs.declared.position.Round.{Round}
 use Rattle.types_core.specs.declared.scheme.Scheme.{Ghosts}
 use Rattle.std.proofs.lemmas.Grind.{common_steps}
 use Rattle.types_core.specs.Positions.{InCoveringRange, term_end, term_start}
-use Rattle.types_core.specs.Subject.{Statement, notarize, nullify, finalize}
+use Rattle.types_core.specs.Subject.{notarize, nullify, finalize}
 use Rattle.types_terms.specs.Spans.{term_end-le, term_start-le}
 use Rattle.messages_certificates.specs.declared.artifact.Artifact.{Artifact}
 use Rattle.messages_certificates.specs.declared.artifact.Artifact.TheVariants as artifact
@@ -24,7 +24,7 @@ use Rattle.simplex_record.specs.Rules.{MayFollow, reach}
 use Rattle.simplex_record.specs.Kept.{IsBehind, StandsForAll}
 use Rattle.simplex_record.specs.Lawful.{Fits, IsLawful, rewritten}
 use Rattle.voter_laws.specs.Matching.{EachHistoryMatches}
-use Rattle.simplex_member.specs.Allowed.{Allowed, AreAllowed, MayRecord, MayRewrite}
+use Rattle.simplex_member.specs.Allowed.{Allowed, AreAllowed, MayRecord}
 use Rattle.simplex_member.specs.Floors.{IsOfViews}
 use Rattle.simplex_member.specs.Laws.{RecordLaws}
 use Rattle.simplex_member.specs.Layers.{is_begun}

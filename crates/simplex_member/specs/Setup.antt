@@ -1,5 +1,5 @@
 -- What stays the same through an opening of a member's node.
-use Rattle.std.specs.Prelude.{◌≡◌, ◌<◌, ◌+◌, ◌^◌, ℕ, Bool, false, max, unwrap_or, Option, Some, None, IfSome}
+use Rattle.std.specs.Prelude.{◌≡◌, ◌<◌, ◌+◌, ◌^◌, ℕ, Bool, max, unwrap_or, Option, Some, None, IfSome}
 use Rattle.types_core.specs.declared.scheme.Scheme.{Ghosts}
 use Rattle.types_terms.specs.declared.elector.Elector as elector
 use Rattle.messages_certificates.specs.ProposalCertificate.{Finalization}

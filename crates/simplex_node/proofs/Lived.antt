@@ -21,7 +21,7 @@ use Rattle.simplex_member.specs.declared.fault.OpenFault.TheVariants as open_fau
 use Rattle.simplex_member.specs.declared.refusal.Refusal.{Refusal}
 use Rattle.simplex_member.specs.Deeds.{AreActions}
 use Rattle.simplex_member.specs.First.{IsFirst}
-use Rattle.simplex_member.specs.Lives.{Broken, Course, Founds, IsCut, Lasting, Life, Lived, Lives, Refuses, Turn, Turns, Went, turn_events}
+use Rattle.simplex_member.specs.Lives.{Broken, Course, Founds, Lasting, Life, Lived, Lives, Refuses, Turn, Turns, Went, turn_events}
 use Rattle.simplex_member.specs.Member as whole
 use Rattle.simplex_member.specs.Member.{AppendsFloor, Goes, AreActionsOf, IsReached, Run, Steps, Takes, after}
 use Rattle.simplex_member.specs.Packet.{Formats}
