@@ -1,6 +1,6 @@
 -- The finalization that a rewrite makes a record begin with.
 use Rattle.std.proofs.Common.{◌≡◌, ◌≤◌, ◌<◌, ◌==◌, ◌∙◌, inl, inr, ℕ, zero, suc, Bool, true, false, List, [], ◌∷◌, Option, Some, None, refl, sym, ap, subst, arith, if◌then◌else◌}
-use Rattle.std.specs.Prelude.{Contains, IsSome, MatchOption, max, nat_lt}
+use Rattle.std.specs.Prelude.{Contains, IsSome, MatchOption, nat_lt}
 use Rattle.std.specs.BTreeMap.{BTreeMap, IsLowerBound, btree_map_len}
 use Rattle.std.specs.declared.cmp.Reverse.{Reverse}
 use Rattle.std.proofs.lemmas.Bool.{eqb-true, lt-ltb}
@@ -16,6 +16,15 @@ use Rattle.simplex_record.specs.Record.{entries, entry, finalizes, floor, greate
 use Rattle.simplex_member.specs.Recorded.{finalization_in, next_floor}
 use Rattle.node_record.specs.Places.{IsFoundAt, KnowsPlaces}
 use Rattle.node_record.proofs.Nullifies.{says}
+
+-- what is told of an option that isn't there, and of one that is
+told-none : {X : Type 0} (o : Option X) (A : Type 0) (B : X → Type 0) → o ≡ None → MatchOption o A B → A
+told-none None A B is told = told
+told-none (Some x) A B is told = absurd (cc is)
+
+told-some : {X : Type 0} (o : Option X) (A : Type 0) (B : X → Type 0) (x : X) → o ≡ Some x → MatchOption o A B → B x
+told-some None A B x is told = absurd (cc is)
+told-some {X} (Some y) A B x is told = let same : y ≡ x = cc is in subst B same told
 
 -- an option is there or not
 there-or : {X : Type 0} (o : Option X) (Q : Type 0) → (o ≡ None → Q) → (IsSome o → Q) → Q
@@ -40,7 +49,8 @@ module _ {S D P G C : Type 0} where
           → (finalization_in xs view ≡ Some c → Contains xs (artifact.Finalization c) × (c.proposal.round.view ≡ view))
           → Contains (artifact.Finalization d ∷ xs) (artifact.Finalization c) × (c.proposal.round.view ≡ view)
       go true same found later =
-          let one : d ≡ c = cc found in (
+          let here : Some d ≡ Some c = found in
+          let one : d ≡ c = cc here in (
             subst (λ (x : Finalization S D P G C). Contains (artifact.Finalization d ∷ xs) (artifact.Finalization x)) one (Contains-head (artifact.Finalization d) xs),
             ap (λ (x : Finalization S D P G C). x.proposal.round.view) (sym one) ∙ same refl,
           )
@@ -54,13 +64,14 @@ module _ {S D P G C : Type 0} where
   -- where a record has a last finalized view, it has the finalization
   last-there : (xs : List (Artifact S D P G C)) (view : ℕ) → 0 < view → last_finalized (entries xs) ≡ view → finalization_in xs view ≡ None → ⊥
   last-there [] view some is none = absurd (omega (arith, some, is))
-  last-there (artifact.Finalization d ∷ xs) view some is none = go (d.proposal.round.view == view) refl none
+  last-there (artifact.Finalization d ∷ xs) view some is none = go (d.proposal.round.view == view) refl none (λ rest gone. last-there xs view some rest gone)
     where
-      go : (b : Bool) → (d.proposal.round.view == view) ≡ b → (if b then Some d else finalization_in xs view) ≡ None → ⊥
-      go true same gone = absurd (cc gone)
-      go false other gone =
+      go : (b : Bool) → (d.proposal.round.view == view) ≡ b → (if b then Some d else finalization_in xs view) ≡ None → (last_finalized (entries xs) ≡ view → finalization_in xs view ≡ None → ⊥) → ⊥
+      go true same gone later = let never : Some d ≡ None = gone in absurd (cc never)
+      go false other gone later =
           let apart : d.proposal.round.view ≡ view → ⊥ = grind (arith, nat_tests, other) in
-          last-there xs view some (omega (arith, is, apart)) gone
+          let rest : last_finalized (entries xs) ≡ view = omega (arith, is, apart) in
+          later rest gone
   last-there (artifact.Notarize v ∷ xs) view some is none = last-there xs view some (omega (arith, is)) none
   last-there (artifact.Notarization c ∷ xs) view some is none = last-there xs view some (omega (arith, is)) none
   last-there (artifact.Certification round ok ∷ xs) view some is none = last-there xs view some (omega (arith, is)) none
@@ -73,13 +84,13 @@ module _ {S D P G C : Type 0} where
     none-later : (last : ℕ) → IsLowerBound latest_first m (as_key last) → (view : ℕ) → last_finalized (entries xs) ≡ view → view ≤ last
     none-later last least zero is = omega arith
     none-later last least (suc v) is = there-or (stored m (suc v)) (suc v ≤ last)
-        (λ none. absurd (last-there xs (suc v) (omega arith) is (rw none at (knows (suc v)))))
+        (λ none. absurd (last-there xs (suc v) (omega arith) is (told-none (stored m (suc v)) (finalization_in xs (suc v) ≡ None) (IsFoundAt finalization_in artifact.Finalization xs (suc v)) none (knows (suc v)))))
         (λ some. le_from_not_gt (suc v) last (least (as_key (suc v)) some))
 
     -- that first one is the last finalized view
     pub last-known : (last place : ℕ) → stored m last ≡ Some place → IsLowerBound latest_first m (as_key last) → last ≡ last_finalized (entries xs)
     last-known last place there least =
-        let at : IsFoundAt finalization_in artifact.Finalization xs last place = rw there at (knows last) in
+        let at : IsFoundAt finalization_in artifact.Finalization xs last place = told-some (stored m last) (finalization_in xs last ≡ None) (IsFoundAt finalization_in artifact.Finalization xs last) place there (knows last) in
         let is = in-record xs last at.0 at.1 in
         let above = none-above xs (artifact.Finalization at.0) is.0 in
         let low : last ≤ last_finalized (entries xs) = subst (λ (v : ℕ). v ≤ last_finalized (entries xs)) is.1 above in
@@ -95,7 +106,7 @@ module _ {S D P G C : Type 0} where
 
         go : (view : ℕ) → last_finalized (entries xs) ≡ view → 0 ≡ last_finalized (entries xs)
         go zero is = sym is
-        go (suc v) is = absurd (last-there xs (suc v) (omega arith) is (rw none (suc v) at (knows (suc v))))
+        go (suc v) is = absurd (last-there xs (suc v) (omega arith) is (told-none (stored m (suc v)) (finalization_in xs (suc v) ≡ None) (IsFoundAt finalization_in artifact.Finalization xs (suc v)) (none (suc v)) (knows (suc v))))
 
   -- a record that begins behind its last finalized view is not to begin with another finalization
   pub no-next : (xs : List (Artifact S D P G C)) (begins last : ℕ) → begins ≡ floor (entries xs) → last ≡ last_finalized (entries xs) → last ≤ begins → None ≡ next_floor xs
@@ -119,4 +130,4 @@ module _ {S D P G C : Type 0} where
     where
       go : (b : Bool) → (if b then finalization_in xs (last_finalized (entries xs)) else None) ≡ Some c → Contains xs (artifact.Finalization c) × (c.proposal.round.view ≡ last_finalized (entries xs))
       go true found = in-record xs (last_finalized (entries xs)) c found
-      go false none = absurd (cc none)
+      go false none = let never : None ≡ Some c = none in absurd (cc never)

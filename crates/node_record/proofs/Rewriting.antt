@@ -1,7 +1,7 @@
 -- A rewrite of a record, and what a crash leaves of it.
-use Rattle.std.proofs.Common.{◌≡◌, ◌<◌, ◌-◌, ◌^◌, ◌∙◌, ◌⊎◌, inl, inr, ⊎_elim, ℕ, Bool, true, false, List, Option, Some, None, refl, ap, subst, sym, map, arith}
-use Rattle.std.specs.Prelude.{if◌then◌else◌, option_map}
-use Rattle.std.proofs.lemmas.Bool.Decides.{nat_tests}
+use Rattle.std.proofs.Common.{◌≡◌, ◌<◌, ◌-◌, ◌^◌, ◌∙◌, ◌↔◌, ◌⊎◌, inl, inr, ⊎_elim, ℕ, Bool, true, false, List, [], ◌∷◌, Option, Some, None, refl, ap, sym, map, arith, ltb-true}
+use Rattle.std.specs.Prelude.{All, IsTrue, if◌then◌else◌, option_map}
+use Rattle.std.proofs.lemmas.List.Elements.{All-cons, All-head, All-nil, All-tail}
 use Rattle.messages_certificates.specs.declared.artifact.Artifact.{Artifact}
 use Rattle.messages_certificates.specs.ProposalCertificate.{Finalization}
 use Rattle.journal_single.specs.declared.disk.Disk as disk
@@ -14,6 +14,17 @@ use Rattle.simplex_record.specs.Lawful.{rewritten}
 use Rattle.simplex_member.specs.Recorded.{next_floor}
 use Rattle.node_record.specs.Ledger.{IsRewriting, next_view}
 
+module _ {X : Type 0} (P : X → Type 0) where
+  -- something holds of all just if it holds of those that don't come yet: of the first it does, or it doesn't, or none is left
+  pub all-rest : (x : X) (rest : List X) (A : Type 0) → P x → A ↔ All P (x ∷ rest) → A ↔ All P rest
+  all-rest x rest A first told = (λ a. All-tail P x rest (told.0 a), λ others. told.1 (All-cons P x rest first others))
+
+  pub all-one : (x : X) (rest : List X) (A : Type 0) (b : Bool) → IsTrue b ↔ P x → b ≡ false → A ↔ All P (x ∷ rest) → IsTrue false ↔ A
+  all-one x rest A b is isnt told = (λ never. absurd (cc never), λ a. absurd (let one = is.1 (All-head P x rest (told.0 a)) in cc (one, isnt)))
+
+  pub all-none : (A : Type 0) → A ↔ All P [] → IsTrue true ↔ A
+  all-none A told = (λ yes. told.1 (All-nil P), λ a. refl)
+
 module _ {M K : Type 0} where
   -- what can be rewritten is over two disks, and isn't of the last generation
   pub may-two : (b : Books M K) → may_rewrite b ≡ true → are_two (disks_of b) ≡ true
@@ -24,7 +35,8 @@ module _ {M K : Type 0} where
   may-further (books.One journal) may last = absurd (cc may)
   may-further (books.Two pair) may last =
       let is : pair.generation ≡ 2 ^ 32 - 1 = last refl in
-      absurd (grind (arith, nat_tests, may, is))
+      let below : pair.generation < 2 ^ 32 - 1 = ltb-true pair.generation (2 ^ 32 - 1) may in
+      omega (arith, is, below)
 
 module _ {S D P G C : Type 0} (xs : List (Artifact S D P G C)) where
   -- the view that is told

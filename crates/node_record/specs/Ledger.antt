@@ -1,5 +1,5 @@
 -- What a member has recorded, and that it stands on its disks.
-use Rattle.std.specs.Prelude.{◌≡◌, ◌⊎◌, ℕ, Bool, false, List, map, All, Option, Some, None, option_map}
+use Rattle.std.specs.Prelude.{◌≡◌, ◌⊎◌, ℕ, Bool, false, List, map, All, Option, Some, None, option_map, if◌then◌else◌}
 use Rattle.types_core.specs.Subject.{Statement}
 use Rattle.messages_certificates.specs.declared.artifact.Artifact.{Artifact}
 use Rattle.messages_certificates.specs.ProposalCertificate.{Finalization}

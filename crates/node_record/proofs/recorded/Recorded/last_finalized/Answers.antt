@@ -1,3 +1,4 @@
+use Rattle.std.proofs.Common.{◌∙◌}
 use Rattle.node_record.proofs.Beginning.{last-known, none-known}
 use Rattle.node_record.proofs.recorded.Recorded.last_finalized.Goals as goal
 
@@ -7,4 +8,4 @@ returns-in-Some g c = λ owner xs k.
 
 pub returns-in-None : goal.returns-in-None
 returns-in-None g c = λ owner xs k.
-    none-known c.args.self.now.places.finalizations xs k.places.finalizations (λ some. cc (c.in-None.ensures.variant.1 some))
+    c.zero.ensures ∙ none-known c.args.self.now.places.finalizations xs k.places.finalizations (λ some. cc (c.in-None.ensures.variant.1 some))
