@@ -10,6 +10,25 @@ use Rattle.node_core.specs.Rewriting.{CoreIsRewritten}
 use Rattle.node_core.proofs.Rewritten.{behind_rewrite, left_by_rewrite, told_floor}
 use Rattle.node_core.proofs.node_state.Core.rewrite.Goals as goal
 
+-- what a crash leaves, whatever was answered
+pub returns-in-Ok-Some-clause-any_moment : goal.returns-in-Ok-Some-clause-any_moment
+returns-in-Ok-Some-clause-any_moment g c = λ s h k none keeps.
+    let f = formats {S = g.row.S.Denot} {P = g.row.S-PublicKey.Denot} g.D.PartialEq.eq g.D.Write.spelling g.S.Signature.Write.spelling g.S.Certificate.Write.spelling g.D.Read.reading g.S.Signature.Read.reading g.S.Certificate.Read.reading (g.S.Scheme.size s.voter.scheme) in
+    let terms : 0 < s.voter.length = subst (λ (o : Owner). 0 < o.term_length) k.set_up.owner_is c.get-_views.ensures.at_least_one in
+    leave_weaker g.K.Disk _ _ (left_by_rewrite g.S.Scheme g.L.Elector g.K.Disk f s c.args.self.now h k terms (c.rewrites_leave_nothing_due.ensures f s) none) _ _ (c.rewrite.ensures.any_moment (owner_of s) (kept_of s.voter.length h) k.ledger keeps)
+
+pub returns-in-Ok-None-clause-any_moment : goal.returns-in-Ok-None-clause-any_moment
+returns-in-Ok-None-clause-any_moment g c = λ s h k none keeps.
+    let f = formats {S = g.row.S.Denot} {P = g.row.S-PublicKey.Denot} g.D.PartialEq.eq g.D.Write.spelling g.S.Signature.Write.spelling g.S.Certificate.Write.spelling g.D.Read.reading g.S.Signature.Read.reading g.S.Certificate.Read.reading (g.S.Scheme.size s.voter.scheme) in
+    let terms : 0 < s.voter.length = subst (λ (o : Owner). 0 < o.term_length) k.set_up.owner_is c.get-_views.ensures.at_least_one in
+    leave_weaker g.K.Disk _ _ (left_by_rewrite g.S.Scheme g.L.Elector g.K.Disk f s c.args.self.now h k terms (c.rewrites_leave_nothing_due.ensures f s) none) _ _ (c.rewrite.ensures.any_moment (owner_of s) (kept_of s.voter.length h) k.ledger keeps)
+
+pub returns-in-Err-Device-clause-any_moment : goal.returns-in-Err-Device-clause-any_moment
+returns-in-Err-Device-clause-any_moment g c = λ s h k none keeps.
+    let f = formats {S = g.row.S.Denot} {P = g.row.S-PublicKey.Denot} g.D.PartialEq.eq g.D.Write.spelling g.S.Signature.Write.spelling g.S.Certificate.Write.spelling g.D.Read.reading g.S.Signature.Read.reading g.S.Certificate.Read.reading (g.S.Scheme.size s.voter.scheme) in
+    let terms : 0 < s.voter.length = subst (λ (o : Owner). 0 < o.term_length) k.set_up.owner_is c.get-_views.ensures.at_least_one in
+    leave_weaker g.K.Disk _ _ (left_by_rewrite g.S.Scheme g.L.Elector g.K.Disk f s c.args.self.now h k terms (c.rewrites_leave_nothing_due.ensures f s) none) _ _ (c.rewrite.ensures.any_moment (owner_of s) (kept_of s.voter.length h) k.ledger keeps)
+
 -- a view was told
 pub returns-in-Ok-Some-clause-rewritten : goal.returns-in-Ok-Some-clause-rewritten
 returns-in-Ok-Some-clause-rewritten g c = λ floor is s h k.
