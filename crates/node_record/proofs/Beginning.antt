@@ -32,7 +32,7 @@ there-or None Q none some = none refl
 there-or (Some x) Q none some = some refl
 
 -- what f gives of an element is at most the greatest that it gives of a list that has it
-at-most : {X : Type 0} (f : X → ℕ) (xs : List X) (x : X) → Contains xs x → f x ≤ greatest 0 f xs
+pub at-most : {X : Type 0} (f : X → ℕ) (xs : List X) (x : X) → Contains xs x → f x ≤ greatest 0 f xs
 at-most f [] x there = absurd (Contains-nil x there)
 at-most f (y ∷ xs) x there = elim (Contains-cases y xs x there) [
   | inl is ↦ let same : f y ≡ f x = ap f is in omega (arith, same)

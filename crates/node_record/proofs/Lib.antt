@@ -11,3 +11,4 @@ pub mod Quiet
 pub mod Beginning
 pub mod Built
 pub mod Rewriting
+pub mod Appended

@@ -201,7 +201,7 @@ impl<S: Scheme<D>, D: Digest> Recorded<S, D> {
     }
 
     /// The last finalized view, or 0.
-    fn last_finalized(&self) -> View
+    pub(crate) fn last_finalized(&self) -> View
         ensures { AtEach self.now (λ owner xs. result ≡ last_finalized (entries xs)) }
     {
         match self.places.finalizations.first_key_value() {

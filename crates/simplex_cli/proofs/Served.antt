@@ -5,6 +5,7 @@ use Rattle.std.specs.Io.KnownBytes.{Appends}
 use Rattle.types_codec.specs.declared.codec.CodecError.{CodecError}
 use Rattle.types_core.specs.declared.scheme.Scheme.{Ghosts}
 use Rattle.messages_certificates.specs.declared.artifact.Artifact.{Artifact}
+use Rattle.messages_certificates.specs.ProposalCertificate.{Finalization}
 use Rattle.types_terms.specs.declared.elector.Elector as elector
 use Rattle.journal_single.specs.declared.disk.Disk as disk
 use Rattle.journal_books.specs.declared.disks.Disks.{Disks}
@@ -101,21 +102,21 @@ module _ {S L D P G C K : Type 0} (g : Ghosts S D P G C) (e : elector.Ghosts L S
   ran_on h node ReadFailed (Err why) given text more ends = tt
 
   -- behind the opening of a record, whose first reply was written
-  pub served_over : (Readable : Artifact S D P G C → Type 0) (on left : Disks K) (now : ℕ) (node : Node S L D K P G C) (first : Reply S D P G C) (ReadFailed : Type 0) (r : Result ⊤ Ending) (given text mid more : Option (List ℕ))
-      → first.refused ≡ None → IsOpenAndSettled g e k f s Readable on now node first.actions.items → Appends text mid (w first) → are_two (disks_of node) ≡ are_two on
+  pub served_over : (Readable : Artifact S D P G C → Type 0) (brought : Option (Finalization S D P G C)) (on left : Disks K) (now : ℕ) (node : Node S L D K P G C) (first : Reply S D P G C) (ReadFailed : Type 0) (r : Result ⊤ Ending) (given text mid more : Option (List ℕ))
+      → first.refused ≡ None → IsOpenAndSettled g e k f s Readable brought on now node first.actions.items → Appends text mid (w first) → are_two (disks_of node) ≡ are_two on
       → ((h : History S D P G C) → NodeKeeps g e k f s node h → NoneDue g f s h → (ended : Result ⊤ IoFault) × EndsAs ended (are_two (disks_of node)) r × ServesOn g k f s left F p w q h ReadFailed ended given mid more)
-      → (ended : Result ⊤ IoFault) × EndsAs ended (are_two on) r × ServesOver g k f s F p w q Readable on left now ReadFailed ended given text more
-  served_over Readable on left now node first ReadFailed r given text mid more taken settled whole many serves =
+      → (ended : Result ⊤ IoFault) × EndsAs ended (are_two on) r × ServesOver g k f s F p w q Readable brought on left now ReadFailed ended given text more
+  served_over Readable brought on left now node first ReadFailed r given text mid more taken settled whole many serves =
       let this = serves settled.end settled.keeps settled.opens.rests.none_due in
-      (this.0, subst (λ (two : Bool). EndsAs this.0 two r) many this.1, record { found = settled.found; are_found = settled.are_found; first = first; taken = taken; end = settled.end; opens = settled.opens; serves = inl (mid, whole, this.2) })
+      (this.0, subst (λ (two : Bool). EndsAs this.0 two r) many this.1, record { found = settled.found; founded = settled.founded; are_found = settled.are.are_found; appends = settled.are.appended.appends; first = first; taken = taken; end = settled.end; opens = settled.opens; serves = inl (mid, whole, this.2) })
 
   -- of which only a front was
-  pub served_not : (Readable : Artifact S D P G C → Type 0) (on left : Disks K) (now : ℕ) (node : Node S L D K P G C) (first : Reply S D P G C) (ReadFailed : Type 0) (why : IoFault) (given text more : Option (List ℕ))
-      → first.refused ≡ None → IsOpenAndSettled g e k f s Readable on now node first.actions.items → (why ≡ fault.Memory) ⊎ (why ≡ fault.Write) → AppendsFront text more (w first)
+  pub served_not : (Readable : Artifact S D P G C → Type 0) (brought : Option (Finalization S D P G C)) (on left : Disks K) (now : ℕ) (node : Node S L D K P G C) (first : Reply S D P G C) (ReadFailed : Type 0) (why : IoFault) (given text more : Option (List ℕ))
+      → first.refused ≡ None → IsOpenAndSettled g e k f s Readable brought on now node first.actions.items → (why ≡ fault.Memory) ⊎ (why ≡ fault.Write) → AppendsFront text more (w first)
       → ((h : History S D P G C) → NodeKeeps g e k f s node h → k.keeps → (read : List (List ℕ)) → MayBeRead k left read → ReadsAsKept g f s read h)
-      → ServesOver g k f s F p w q Readable on left now ReadFailed (broken_off why) given text more
-  served_not Readable on left now node first ReadFailed why given text more taken settled faults front kept =
-      record { found = settled.found; are_found = settled.are_found; first = first; taken = taken; end = settled.end; opens = settled.opens; serves = inr (is_broken_off why faults, front, kept settled.end settled.keeps) }
+      → ServesOver g k f s F p w q Readable brought on left now ReadFailed (broken_off why) given text more
+  served_not Readable brought on left now node first ReadFailed why given text more taken settled faults front kept =
+      record { found = settled.found; founded = settled.founded; are_found = settled.are.are_found; appends = settled.are.appended.appends; first = first; taken = taken; end = settled.end; opens = settled.opens; serves = inr (is_broken_off why faults, front, kept settled.end settled.keeps) }
 
 -- what a program comes to whose record was not opened, or whose node ran by the index that its scheme has
 pub comes_as : (own : Option ℕ) (index : ℕ) (ended : Result ⊤ Ending) (Untouched : Type 0) (Unopened : OpenFault → Type 0) (two : Bool) (Run : Result ⊤ IoFault → ℕ → Type 0) → own ≡ Some index

@@ -1,9 +1,10 @@
 -- What a program that runs a node comes to: what was opened, and what was written.
-use Rattle.std.specs.Prelude.{◌≡◌, ◌≢◌, ◌⊎◌, ℕ, Bool, List, Option, None, Result, Ok, Err, false, true, ⊤}
+use Rattle.std.specs.Prelude.{◌≡◌, ◌≢◌, ◌⊎◌, ◌++◌, ℕ, Bool, List, Option, None, Result, Ok, Err, false, true, ⊤}
 use Rattle.std.specs.Io.KnownBytes.{Appends}
 use Rattle.types_codec.specs.declared.codec.CodecError.{CodecError}
 use Rattle.types_core.specs.declared.scheme.Scheme.{Ghosts}
 use Rattle.messages_certificates.specs.declared.artifact.Artifact.{Artifact}
+use Rattle.messages_certificates.specs.ProposalCertificate.{Finalization}
 use Rattle.journal_single.specs.declared.disk.Disk as disk
 use Rattle.journal_single.specs.Disk.{counted}
 use Rattle.journal_books.specs.declared.disks.Disks.{Disks}
@@ -16,7 +17,7 @@ use Rattle.simplex_member.specs.declared.fault.IoFault.{IoFault}
 use Rattle.simplex_member.specs.declared.fault.IoFault.TheVariants as fault
 use Rattle.simplex_member.specs.declared.fault.NodeFault.{NodeFault}
 use Rattle.simplex_member.specs.declared.fault.OpenFault.{OpenFault}
-use Rattle.simplex_member.specs.Member.{IsReached, Opens, ReadsAsKept, Run}
+use Rattle.simplex_member.specs.Member.{AppendsFloor, IsReached, Opens, ReadsAsKept, Run}
 use Rattle.simplex_member.specs.Packet.{Formats}
 use Rattle.simplex_member.specs.Point.{History}
 use Rattle.simplex_member.specs.Setup.{Setup}
@@ -86,19 +87,22 @@ module _ {S D P G C K : Type 0} (g : Ghosts S D P G C) (k : disk.Ghosts K) (f : 
 
 module _ {S D P G C K : Type 0} (g : Ghosts S D P G C) (k : disk.Ghosts K) (f : Formats S D P G C) (s : Setup S D C)
     (F : D → Type 0) (p : D → List ℕ) (w : Reply S D P G C → List ℕ) (q : List ℕ → Result (D × List ℕ) CodecError) where
-  -- a record was opened over what was found on disks, and what that hands out was written as the first reply
-  pub record ServesOver {A : Type 0} (Readable : Artifact S D P G C → Type 0) (on left : Disks K) (now : ℕ) (ReadFailed : Type 0) (io : Result A IoFault) (given old new : Option (List ℕ)) : Type 0 where
+  -- a record was opened over what was found on disks, with the finalization behind it that the opening brings, if it does, and what that
+  -- hands out was written as the first reply
+  pub record ServesOver {A : Type 0} (Readable : Artifact S D P G C → Type 0) (brought : Option (Finalization S D P G C)) (on left : Disks K) (now : ℕ) (ReadFailed : Type 0) (io : Result A IoFault) (given old new : Option (List ℕ)) : Type 0 where
     pub found : List (Artifact S D P G C)
+    pub founded : List (Artifact S D P G C)
     pub are_found : AreFoundOn k f.artifact Readable on found
+    pub appends : AppendsFloor brought found founded
     pub first : Reply S D P G C
     pub taken : first.refused ≡ None
     pub end : History S D P G C
-    pub opens : Opens g f s now found first.actions.items end
+    pub opens : Opens g f s now (found ++ founded) first.actions.items end
     pub serves : Serves g k f s left F p w q end first ReadFailed io given old new
 
-  -- a program opened no record, or had no memory for what that takes, and then its output is untouched; or it opened one and ran a node over
-  -- streams, at whose end it ended
+  -- a program that starts from the payload of view 0 opened no record, or had no memory for what that takes, and then its output is
+  -- untouched; or it opened one and ran a node over streams, at whose end it ended
   abbrev pub ComesTo : (Artifact S D P G C → Type 0) → Disks K → Disks K → ℕ → Type 0 → Type 0 → Result ⊤ Ending → Option (List ℕ) → Option (List ℕ) → Option (List ℕ) → Type 0
   ComesTo Readable on left now ReadFailed Untouched ended given old new =
       (((ended ≡ Err ending.Memory) ⊎ ((why : OpenFault) × (ended ≡ Err (ending.Open why)))) × Untouched)
-      ⊎ ((io : Result ⊤ IoFault) × EndsAs io (are_two on) ended × ServesOver Readable on left now ReadFailed io given old new)
+      ⊎ ((io : Result ⊤ IoFault) × EndsAs io (are_two on) ended × ServesOver Readable None on left now ReadFailed io given old new)

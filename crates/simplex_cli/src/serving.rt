@@ -7,7 +7,7 @@ ghost use Rattle.simplex_member.specs.declared.fault.IoFault.{IoFault};
 ghost use Rattle.simplex_member.specs.declared.fault.NodeFault.{NodeFault};
 ghost use Rattle.simplex_member.specs.declared.fault.OpenFault.{OpenFault};
 ghost use Rattle.simplex_member.specs.Member.{NoneDue};
-ghost use Rattle.simplex_member.specs.Setup.{setup_of};
+ghost use Rattle.simplex_member.specs.Setup.{brought_by, setup_of};
 ghost use Rattle.node_core.specs.Rewriting.{IsLeftByRewrite};
 ghost use Rattle.node_steps.specs.Keeps.{AtOwn, disks_of, has_failed};
 ghost use Rattle.node_steps.specs.Opening.{IsUnopened};
@@ -25,6 +25,7 @@ use std::alloc::Global;
 use std::rc::Rc;
 use types_core::{Digest, Scheme};
 use types_terms::Elector;
+use voter_rules::Floor;
 use voter_rules::config::Config;
 
 /// Opens a member's record over one disk or two at a moment, in milliseconds, writes what the opening hands out as a reply, and then
@@ -36,7 +37,7 @@ use voter_rules::config::Config;
 /// [`run_io`] answered, or [`Ending::Step`] where the rewrite failed.
 pub fn serve_over<S: Scheme<D> + Drop, L: Elector<S, D>, D: Digest, K: Disk, R: Source, W: Sink>(
     alloc: Global,
-    config: Config<D>,
+    config: Config<Floor<S, D>>,
     scheme: Rc<S>,
     elector: L,
     disks: Disks<K>,
@@ -53,8 +54,8 @@ pub fn serve_over<S: Scheme<D> + Drop, L: Elector<S, D>, D: Digest, K: Disk, R: 
         EndsAs ended (are_two disks) result.0 × (S.own scheme.value ≡ Some index) × ServesOver S.Scheme K.Disk
         (⟦<S as Speaks<D>>⟧.formats (S.size scheme.value)) (setup_of S.Scheme L.Elector config scheme.value elector index) D.fits D.spelling
         (spelled S.PublicKey.spelling D.spelling S.Signature.spelling S.Certificate.spelling) (D.reading 65535) ⟦<S as Speaks<D>>⟧.readable
-        disks result.1 now (R.failed input.new ≡ counted false (R.failed input.old)) ended (R.remaining input.old) (W.contents output.old)
-        (W.contents output.new)) }
+        (brought_by config.floor) disks result.1 now (R.failed input.new ≡ counted false (R.failed input.old)) ended (R.remaining input.old)
+        (W.contents output.old) (W.contents output.new)) }
     ensures as_many { are_two result.1 ≡ are_two disks }
 {
     match open_disks_io(alloc, config, scheme, elector, disks, now, output) {

@@ -17,14 +17,15 @@ use Rattle.simplex_member.specs.declared.event.Event.TheVariants as event
 use Rattle.simplex_member.specs.declared.refusal.Refusal.TheVariants as refusal
 use Rattle.simplex_member.specs.Deeds.{deeds_of}
 use Rattle.simplex_member.specs.First.{IsFirst}
+use Rattle.simplex_member.specs.Laws.{IsExact}
 use Rattle.simplex_member.specs.Layers.{current_of, finalized_of}
 use Rattle.simplex_member.specs.Lives.{Life, Lives}
-use Rattle.simplex_member.specs.Member.{NoneDue}
+use Rattle.simplex_member.specs.Member.{AreOpening, Goes, NoneDue}
 use Rattle.simplex_member.specs.Packet.{Formats}
 use Rattle.simplex_member.specs.Point.{Point, Rewrote, History}
 use Rattle.simplex_member.specs.Recorded.{kept_of, record_of, recorded_by}
 use Rattle.simplex_member.specs.Refusals.{tests}
-use Rattle.simplex_member.specs.Setup.{Setup, owner_of}
+use Rattle.simplex_member.specs.Setup.{Setup, IsInTime, owner_of}
 
 module _ {S D P G C : Type 0} (g : Ghosts S D P G C) (f : Formats S D P G C) (s : Setup S D C) where
   -- ---- of one opening
@@ -92,6 +93,13 @@ module _ {S D P G C : Type 0} (g : Ghosts S D P G C) (f : Formats S D P G C) (s 
   abbrev pub NoneIsDueBelow : Type 0
   NoneIsDueBelow = (h : History S D P G C) (v : Vote S D P G C) → AreAllowed g f s h → VoteIsDue g f s h v
       → floor (entries (kept_of s.voter.length h)) < (vote_round v).view
+
+  -- a lawful record is opened at any moment that lies early enough: an opening goes through all of it, and leaves it as it was
+  abbrev pub LawfulIsOpened : Type 0
+  LawfulIsOpened = (now : ℕ) (found : List (Artifact S D P G C)) → IsExact f → IsInTime s now
+      → IsLawful (g.attests s.voter.scheme) (g.certifies s.voter.scheme) (owner_of s) found
+      → (points : List (Point S D P G C)) × (end : History S D P G C) × AreOpening g f s now found points × Goes g f s [] points end
+      × (kept_of s.voter.length end ≡ found)
 
   -- ---- of lives
 

@@ -5,7 +5,7 @@ ghost use Rattle.types_codec.specs.Codec.{Readable};
 ghost use Rattle.messages_certificates.specs.declared.artifact.Artifact.{Artifact};
 ghost use Rattle.messages_certificates.specs.Artifact.{artifact_fits, artifact_spelling, artifact_within};
 ghost use Rattle.simplex_member.specs.Doing.{ActsEnd, ActsEndAnyhow, NothingIsDoneTwice};
-ghost use Rattle.simplex_member.specs.Floors.{DroppedAreUnknown, KeptIsLawful, KeptIsOfViews, KeptStandsForAll, KeptTellsAll, LivesLeaveAll, NextFitsKept, NoneIsDueBelow, ParentsLieFromFloor, RewritesAreSo, RewritesLeaveNothingDue};
+ghost use Rattle.simplex_member.specs.Floors.{DroppedAreUnknown, KeptIsLawful, KeptIsOfViews, KeptStandsForAll, KeptTellsAll, LawfulIsOpened, LivesLeaveAll, NextFitsKept, NoneIsDueBelow, ParentsLieFromFloor, RewritesAreSo, RewritesLeaveNothingDue};
 ghost use Rattle.simplex_member.specs.Laws.{AcceptedAreKnown, Agree, AgreeIfHonest, AreReadBack, AwaitedIsJudgeable, AwaitedMayBeRecorded, BlockedByRefusalAlone, BroughtFloorsAreSound, CanBeSent, ConstructionsBlockNone, CorrectVotesAreSound, CorrectVotesContradictNone, DeedsAreDone, DeedsAreOfPoints, DueFinalizeMayBeRecorded, DueIsBound, DueMayBeRecorded, DueNullifyMayBeRecorded, EarlyIsInTime, EmptyIsOpened, FinalizeAlike, HandedCertificatesAreSound, IsExact, KnownNullifiesAreRecorded, LeftIsFound, LeftStandsOnGround, LieOnOneChain, LifeLaws, ListLaws, LivesLeaveLawful, LivesLeaveReadable, MadeAreHonest, MadeAreSound, MadeIsAllowed, MadeListVotes, NeverContradicts, NeverForeign, NextStandsOnGround, NoQuorumIsLost, NoneIsBlamed, OneIsRead, OwnVotesAgree, PacketsAreInGrammar, ProposalsLieInTheirViews, ReachedAreGoneTo, RecordLaws, RecordsGrow, RecordsStandOnGround, RecordsStayLawful, ReportedCertify, ReportsAreHonest, RequestsAreTracked, RoundLaws, RunsAreStretches, StepsOfSeveralRaiseLittle, StepsRaiseLittle, ViewsNeverFall, VotersAreOrderly, VotersTellTheRecord, VotesAreLawful, VotesAreRecorded, VotesWereDue};
 ghost use Rattle.simplex_member.specs.Packet.{Formats, IsRecordable, formats};
 ghost use Rattle.simplex_member.specs.Setup.{Setup};
@@ -179,6 +179,11 @@ pub fn parents_lie_from_the_floor<S: Scheme<D>, D: Digest>()
 /// An empty record is opened at any moment that lies early enough.
 pub fn empty_records_are_opened<S: Scheme<D>, D: Digest>()
     ensures { (f : Formats S D S.PublicKey S.Signature S.Certificate) (s : Setup S D S.Certificate) → EmptyIsOpened S.Scheme f s }
+{}
+
+/// So is each lawful record, whatever stands in it: an opening goes through all of it.
+pub fn lawful_records_are_opened<S: Scheme<D>, D: Digest>()
+    ensures { (f : Formats S D S.PublicKey S.Signature S.Certificate) (s : Setup S D S.Certificate) → LawfulIsOpened S.Scheme f s }
 {}
 
 /// No deadline that is counted from a moment early enough is cut at the last moment of 64 bits.

@@ -19,8 +19,11 @@ pub use node_wire::{
 };
 pub use opening_io::{open_disks_io, open_io};
 pub use running::run;
-pub use simplex_member::{Action, Channel, Event, IoFault, NodeFault, OpenFault, Refusal, Reply};
+pub use simplex_member::{
+    Action, Channel, Event, IoFault, NodeFault, OpenFault, Refusal, Reply, SetupFault,
+};
 pub use streaming::run_io;
 pub use voter_rules::config::{
     Config, ConfigFault, ForwardPolicy, SkipBudget, SkipPolicy, check_config,
 };
+pub use voter_rules::{Floor, FloorFault, check_floor};

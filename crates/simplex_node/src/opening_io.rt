@@ -6,7 +6,7 @@ ghost use Rattle.journal_books.specs.declared.disks.Disks.TheVariants.{One};
 ghost use Rattle.journal_books.specs.Books.{are_two};
 ghost use Rattle.simplex_member.specs.declared.action.Reply.{Reply};
 ghost use Rattle.simplex_member.specs.declared.fault.IoFault.TheVariants as fault;
-ghost use Rattle.simplex_member.specs.Setup.{setup_of};
+ghost use Rattle.simplex_member.specs.Setup.{brought_by, setup_of};
 ghost use Rattle.node_steps.specs.Keeps.{disks_of};
 ghost use Rattle.node_steps.specs.Opening.{HasOpened, IsOpenAndSettled, IsUnopened};
 ghost use Rattle.simplex_node.specs.Running.{IsWritten};
@@ -21,6 +21,7 @@ use std::alloc::Global;
 use std::rc::Rc;
 use types_core::{Digest, Scheme};
 use types_terms::Elector;
+use voter_rules::Floor;
 use voter_rules::config::Config;
 
 /// Opens a member's record at a moment, in milliseconds, and writes what the opening hands out as the first reply. With the node,
@@ -32,7 +33,7 @@ use voter_rules::config::Config;
 /// reply's bytes: then nothing was written, and [`IoFault::Write`] where a write or the flush failed: then a front of them was.
 pub fn open_io<S: Scheme<D> + Drop, L: Elector<S, D>, D: Digest, K: Disk, W: Sink>(
     alloc: Global,
-    config: Config<D>,
+    config: Config<Floor<S, D>>,
     scheme: Rc<S>,
     elector: L,
     disk: K,
@@ -46,7 +47,8 @@ pub fn open_io<S: Scheme<D> + Drop, L: Elector<S, D>, D: Digest, K: Disk, W: Sin
         (index : ℕ) × (first : Reply S D S.PublicKey S.Signature S.Certificate) × (S.own scheme.value ≡ Some index) × (first.refused ≡ None)
         × IsWritten (spelled S.PublicKey.spelling D.spelling S.Signature.spelling S.Certificate.spelling) first r.1 (W.contents writer.old)
         (W.contents writer.new) × IsOpenAndSettled S.Scheme L.Elector K.Disk (⟦<S as Speaks<D>>⟧.formats (S.size scheme.value))
-        (setup_of S.Scheme L.Elector config scheme.value elector index) ⟦<S as Speaks<D>>⟧.readable (One disk) now r.0 first.actions.items) }
+        (setup_of S.Scheme L.Elector config scheme.value elector index) ⟦<S as Speaks<D>>⟧.readable (brought_by config.floor) (One disk) now r.0
+        first.actions.items) }
     ensures no_memory { IfOk result (λ r. r.1 ≡ Err fault.Memory → writer.new ≡ writer.old) }
     ensures unwritten { OnErr result (writer.new ≡ writer.old) }
 
@@ -87,7 +89,7 @@ pub fn open_io<S: Scheme<D> + Drop, L: Elector<S, D>, D: Digest, K: Disk, W: Sin
 /// Those of [`open_io`], with the disks.
 pub fn open_disks_io<S: Scheme<D> + Drop, L: Elector<S, D>, D: Digest, K: Disk, W: Sink>(
     alloc: Global,
-    config: Config<D>,
+    config: Config<Floor<S, D>>,
     scheme: Rc<S>,
     elector: L,
     disks: Disks<K>,
@@ -99,7 +101,8 @@ pub fn open_disks_io<S: Scheme<D> + Drop, L: Elector<S, D>, D: Digest, K: Disk, 
         (index : ℕ) × (first : Reply S D S.PublicKey S.Signature S.Certificate) × (S.own scheme.value ≡ Some index) × (first.refused ≡ None)
         × IsWritten (spelled S.PublicKey.spelling D.spelling S.Signature.spelling S.Certificate.spelling) first r.1 (W.contents writer.old)
         (W.contents writer.new) × IsOpenAndSettled S.Scheme L.Elector K.Disk (⟦<S as Speaks<D>>⟧.formats (S.size scheme.value))
-        (setup_of S.Scheme L.Elector config scheme.value elector index) ⟦<S as Speaks<D>>⟧.readable disks now r.0 first.actions.items) }
+        (setup_of S.Scheme L.Elector config scheme.value elector index) ⟦<S as Speaks<D>>⟧.readable (brought_by config.floor) disks now r.0
+        first.actions.items) }
     ensures no_memory { IfOk result (λ r. r.1 ≡ Err fault.Memory → writer.new ≡ writer.old) }
     ensures unwritten { OnErr result (writer.new ≡ writer.old) }
 
@@ -136,7 +139,7 @@ pub fn open_disks_io<S: Scheme<D> + Drop, L: Elector<S, D>, D: Digest, K: Disk, 
 /// Opens a member's record over one disk or two.
 fn open_on<S: Scheme<D> + Drop, L: Elector<S, D>, D: Digest, K: Disk>(
     alloc: Global,
-    config: Config<D>,
+    config: Config<Floor<S, D>>,
     scheme: Rc<S>,
     elector: L,
     disks: Disks<K>,
@@ -146,7 +149,7 @@ fn open_on<S: Scheme<D> + Drop, L: Elector<S, D>, D: Digest, K: Disk>(
     ensures opened { IfOk result (λ r.
         (index : ℕ) × (S.own scheme.value ≡ Some index) × IsOpenAndSettled S.Scheme L.Elector K.Disk
         (⟦<S as Speaks<D>>⟧.formats (S.size scheme.value)) (setup_of S.Scheme L.Elector config scheme.value elector index)
-        ⟦<S as Speaks<D>>⟧.readable disks now r.0 r.1.items) }
+        ⟦<S as Speaks<D>>⟧.readable (brought_by config.floor) disks now r.0 r.1.items) }
     ensures has_opened { IfOk result (λ r.
         HasOpened S.Scheme L.Elector K.Disk (⟦<S as Speaks<D>>⟧.formats (S.size scheme.value))
         (setup_of S.Scheme L.Elector config scheme.value elector) ⟦<S as Speaks<D>>⟧.readable config scheme.value disks now

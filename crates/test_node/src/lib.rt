@@ -7,8 +7,11 @@
 //!   for a STALL or SKIP that never comes; BUDGET is how many terms may be skipped, `-` for as many as there are members;
 //!   FORWARD is `disabled`, `silent-voters` or `silent-leader`; HANDOFFS is 1: no node goes without. `reset pair ..`: the same with
 //!   two empty disks
+//! - `floor FLOOR`: what the openings start from that come, `genesis PAYLOAD`, as without this call that of zeros, or
+//!   `finalization CERTIFICATE`, or `spelled BYTES`
 //! - `open NOW`: closes the node that is open, opens the disk, and tells the first actions as a reply, or `fault NUMBER`,
-//!   behind it what else is told: of a configuration the number of its fault, of an artifact its place or position
+//!   behind it what else is told: of a configuration and of what it starts from the number of the fault, of an artifact its
+//!   place or position
 //! - `event EVENT`: the reply, or `fault NUMBER`; `times COUNT event EVENT`: so many times, and what is answered each time
 //!   where that is the same, else `changes`; `stream EVENTS`: the replies to so many events, one behind the other, read and
 //!   written as streams, and behind them `bad PLACE` where no event stands at that byte, or `fault NUMBER`
@@ -35,6 +38,7 @@ mod member;
 mod seat;
 mod setup;
 mod spelling;
+mod starting;
 mod turns;
 
 pub use desk::play_on;

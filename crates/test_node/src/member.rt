@@ -7,12 +7,14 @@ use crate::medium::Medium;
 use crate::seat::Seat;
 use crate::setup::Setup;
 use crate::spelling::{event_of, say_actions, say_reply};
+use crate::starting::read_floor;
 use simplex_member::{Action, Event, Reply};
 use std::alloc::Global;
 use std::marker::PhantomData;
 use std::rc::Rc;
 use test_words::{Committee, Say, Trouble, Words};
-use types_core::Sha256Digest;
+use types_core::{Duplicate, Sha256Digest};
+use voter_rules::Floor;
 use voter_rules::config::Config;
 
 /// What the calls of a script are made on, whatever the member's scheme, its disk and its node.
@@ -26,19 +28,19 @@ pub trait Answers: Drop {
 
 /// A member with its disk, or with two, which the node has while it is open.
 #[derive(Drop)]
-pub struct Member<S, K, N, T> {
+pub struct Member<S: Committee, K, N, T> {
     setup: Setup,
     disk: Option<K>,
     second: Option<K>,
     node: Option<N>,
-    scheme: PhantomData<S>,
+    floor: Floor<S, Sha256Digest>,
     seat: PhantomData<T>,
 }
 
 impl<S: Committee, K: Medium, N: Drop, T> Member<S, K, N, T>
 where
     T: Seat<
-        Config<Sha256Digest>,
+        Config<Floor<S, Sha256Digest>>,
         S,
         K,
         N,
@@ -118,7 +120,7 @@ where
         now: u64,
         say: &mut Say,
     ) -> Result<(), Trouble> {
-        let config = self.setup.config();
+        let config = self.setup.config(self.floor.duplicate(say.alloc)?);
         match T::open_pair(say.alloc, &self.setup, config, scheme, first, second, now) {
             Ok((node, actions)) => {
                 self.node = Some(node);
@@ -134,7 +136,7 @@ where
 
     /// Opens the one disk.
     fn open_one(&mut self, scheme: Rc<S>, disk: K, now: u64, say: &mut Say) -> Result<(), Trouble> {
-        let config = self.setup.config();
+        let config = self.setup.config(self.floor.duplicate(say.alloc)?);
         match T::open(say.alloc, &self.setup, config, scheme, disk, now) {
             Ok((node, actions)) => {
                 self.node = Some(node);
@@ -154,6 +156,12 @@ where
             Ok(reply) => say_reply(&reply, say),
             Err(fault) => say_fault(fault, say),
         }
+    }
+
+    /// `floor FLOOR`: what the openings start from that come.
+    fn start_from(&mut self, words: &mut Words<'_>, say: &mut Say) -> Result<(), Trouble> {
+        self.floor = read_floor(say.alloc, words, self.setup.members)?;
+        say.ok()
     }
 
     /// `event EVENT`.
@@ -217,7 +225,7 @@ where
 
     /// `live NOW EVENTS NOW EVENTS ..`: what each opening answered, with ` , ` between two.
     fn live(&mut self, words: &mut Words<'_>, say: &mut Say) -> Result<(), Trouble> {
-        let lives = read_lives(&self.setup, words, say.alloc)?;
+        let lives = read_lives(&self.setup, &self.floor, words, say.alloc)?;
         self.close();
         let Some(disk) = self.disk.take() else {
             return Err(Trouble::Condition);
@@ -320,7 +328,7 @@ where
 impl<S: Committee, K: Medium, N: Drop, T: Drop> Answers for Member<S, K, N, T>
 where
     T: Seat<
-        Config<Sha256Digest>,
+        Config<Floor<S, Sha256Digest>>,
         S,
         K,
         N,
@@ -342,7 +350,7 @@ where
             disk,
             second,
             node: None,
-            scheme: PhantomData,
+            floor: Floor::Genesis(Sha256Digest::new([0; 32])),
             seat: PhantomData,
         })
     }
@@ -355,6 +363,7 @@ where
             "stream" => self.stream(words, say),
             "rewrite" => self.rewrite(words, say),
             "live" => self.live(words, say),
+            "floor" => self.start_from(words, say),
             "disk" | "bytes" | "fuse" | "fail_at" => self.hold(name, words, say),
             _ => self.ask(name, words, say),
         }

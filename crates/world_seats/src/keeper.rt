@@ -12,8 +12,9 @@ use std::alloc::Global;
 use std::rc::Rc;
 use test_words::Committee;
 use types_core::Sha256Digest;
+use voter_rules::Floor;
 use world_members::{Halt, Seat, config_of, member_of};
-use world_network::{Broken, Fuse, Scenario, Times};
+use world_network::{Broken, Fuse, Scenario, Times, genesis};
 
 /// How far the seed of a second disk lies behind that of the first.
 const SECOND: u64 = 1_000_033;
@@ -70,7 +71,7 @@ impl<S: Committee, L: Turns<S>, K: Medium> Keeper<S, L, K> {
     ) -> Result<(Node<S, L, Sha256Digest, K>, Vec<Action<S, Sha256Digest>>), (OpenFault, Disks<K>)>
         requires { L.built_for elector (S.size scheme.value) }
     {
-        let config = config_of(&self.times);
+        let config = config_of(&self.times, Floor::Genesis(genesis()));
         match disks {
             Disks::One(disk) => {
                 match Node::open(self.alloc, config, scheme, elector, disk, now) {

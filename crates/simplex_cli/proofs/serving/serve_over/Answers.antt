@@ -2,7 +2,7 @@ use Rattle.std.proofs.Common.{inr, ap, ◌∙◌}
 use Rattle.std.specs.Prelude.{Err, ⊤}
 use Rattle.journal_books.specs.Books.{are_two}
 use Rattle.simplex_member.specs.Packet.{formats}
-use Rattle.simplex_member.specs.Setup.{setup_of}
+use Rattle.simplex_member.specs.Setup.{brought_by, setup_of}
 use Rattle.node_wire.specs.Streaming.{spelled}
 use Rattle.simplex_cli.proofs.Served.{served_not, served_over}
 use Rattle.simplex_cli.proofs.Streams.{told_behind, told_first, told_none}
@@ -17,7 +17,7 @@ returns-in-Ok-written-clause-serves g c =
     served_over g.S.Scheme g.L.Elector g.K.Disk
     (formats {S = g.row.S.Denot} {P = g.row.S-PublicKey.Denot} g.D.PartialEq.eq g.D.Write.spelling g.S.Signature.Write.spelling g.S.Certificate.Write.spelling g.D.Read.reading g.S.Signature.Read.reading g.S.Certificate.Read.reading (g.S.Scheme.size c.args.scheme.value))
     s g.D.Write.fits g.D.Write.spelling (spelled g.S.PublicKey.Write.spelling g.D.Write.spelling g.S.Signature.Write.spelling g.S.Certificate.Write.spelling) (g.D.Read.reading 65535)
-    _ c.args.disks c.serve.result.1 c.args.now c.in-Ok.node opened.1 _ c.serve.result.0 _ _ _ _ opened.3 opened.5 whole c.in-Ok.ensures.as_many (c.serve.ensures.serves s) in
+    _ (brought_by c.args.config.floor) c.args.disks c.serve.result.1 c.args.now c.in-Ok.node opened.1 _ c.serve.result.0 _ _ _ _ opened.3 opened.5 whole c.in-Ok.ensures.as_many (c.serve.ensures.serves s) in
     inr (this.0, opened.0, this.1, opened.2, this.2)
 
 pub returns-in-Err-written-clause-serves : goal.returns-in-Err-written-clause-serves
@@ -29,7 +29,7 @@ returns-in-Err-written-clause-serves g c =
     served_not g.S.Scheme g.L.Elector g.K.Disk
     (formats {S = g.row.S.Denot} {P = g.row.S-PublicKey.Denot} g.D.PartialEq.eq g.D.Write.spelling g.S.Signature.Write.spelling g.S.Certificate.Write.spelling g.D.Read.reading g.S.Signature.Read.reading g.S.Certificate.Read.reading (g.S.Scheme.size c.args.scheme.value))
     s g.D.Write.fits g.D.Write.spelling (spelled g.S.PublicKey.Write.spelling g.D.Write.spelling g.S.Signature.Write.spelling g.S.Certificate.Write.spelling) (g.D.Read.reading 65535)
-    _ c.args.disks c.into_disks.result c.args.now c.in-Ok.node opened.1 _ c.in-Err-written.fault (g.R.Source.remaining c.args.input.now) _ _ opened.3 opened.5 faults opened.4.front
+    _ (brought_by c.args.config.floor) c.args.disks c.into_disks.result c.args.now c.in-Ok.node opened.1 _ c.in-Err-written.fault (g.R.Source.remaining c.args.input.now) _ _ opened.3 opened.5 faults opened.4.front
     (c.into_disks.ensures.left s) in
     inr (Err c.in-Err-written.fault, opened.0, ap Err c.of.ensures, opened.2, this)
 
