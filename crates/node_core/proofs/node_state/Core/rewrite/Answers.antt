@@ -14,26 +14,26 @@ use Rattle.node_core.proofs.node_state.Core.rewrite.Goals as goal
 pub returns-in-Ok-Some-clause-any_moment : goal.returns-in-Ok-Some-clause-any_moment
 returns-in-Ok-Some-clause-any_moment g c = λ s h k none keeps.
     let f = formats {S = g.row.S.Denot} {P = g.row.S-PublicKey.Denot} g.D.PartialEq.eq g.D.Write.spelling g.S.Signature.Write.spelling g.S.Certificate.Write.spelling g.D.Read.reading g.S.Signature.Read.reading g.S.Certificate.Read.reading (g.S.Scheme.size s.voter.scheme) in
-    let terms : 0 < s.voter.length = subst (λ (o : Owner). 0 < o.term_length) k.set_up.owner_is c.get-_views.ensures.at_least_one in
+    let terms : 0 < s.voter.length = subst (λ (o : Owner). 0 < o.term_length) k.set_up.owner_is c.get-views.ensures.at_least_one in
     leave_weaker g.K.Disk _ _ (left_by_rewrite g.S.Scheme g.L.Elector g.K.Disk f s c.args.self.now h k terms (c.rewrites_leave_nothing_due.ensures f s) none) _ _ (c.rewrite.ensures.any_moment (owner_of s) (kept_of s.voter.length h) k.ledger keeps)
 
 pub returns-in-Ok-None-clause-any_moment : goal.returns-in-Ok-None-clause-any_moment
 returns-in-Ok-None-clause-any_moment g c = λ s h k none keeps.
     let f = formats {S = g.row.S.Denot} {P = g.row.S-PublicKey.Denot} g.D.PartialEq.eq g.D.Write.spelling g.S.Signature.Write.spelling g.S.Certificate.Write.spelling g.D.Read.reading g.S.Signature.Read.reading g.S.Certificate.Read.reading (g.S.Scheme.size s.voter.scheme) in
-    let terms : 0 < s.voter.length = subst (λ (o : Owner). 0 < o.term_length) k.set_up.owner_is c.get-_views.ensures.at_least_one in
+    let terms : 0 < s.voter.length = subst (λ (o : Owner). 0 < o.term_length) k.set_up.owner_is c.get-views.ensures.at_least_one in
     leave_weaker g.K.Disk _ _ (left_by_rewrite g.S.Scheme g.L.Elector g.K.Disk f s c.args.self.now h k terms (c.rewrites_leave_nothing_due.ensures f s) none) _ _ (c.rewrite.ensures.any_moment (owner_of s) (kept_of s.voter.length h) k.ledger keeps)
 
 pub returns-in-Err-Device-clause-any_moment : goal.returns-in-Err-Device-clause-any_moment
 returns-in-Err-Device-clause-any_moment g c = λ s h k none keeps.
     let f = formats {S = g.row.S.Denot} {P = g.row.S-PublicKey.Denot} g.D.PartialEq.eq g.D.Write.spelling g.S.Signature.Write.spelling g.S.Certificate.Write.spelling g.D.Read.reading g.S.Signature.Read.reading g.S.Certificate.Read.reading (g.S.Scheme.size s.voter.scheme) in
-    let terms : 0 < s.voter.length = subst (λ (o : Owner). 0 < o.term_length) k.set_up.owner_is c.get-_views.ensures.at_least_one in
+    let terms : 0 < s.voter.length = subst (λ (o : Owner). 0 < o.term_length) k.set_up.owner_is c.get-views.ensures.at_least_one in
     leave_weaker g.K.Disk _ _ (left_by_rewrite g.S.Scheme g.L.Elector g.K.Disk f s c.args.self.now h k terms (c.rewrites_leave_nothing_due.ensures f s) none) _ _ (c.rewrite.ensures.any_moment (owner_of s) (kept_of s.voter.length h) k.ledger keeps)
 
 -- a view was told
 pub returns-in-Ok-Some-clause-rewritten : goal.returns-in-Ok-Some-clause-rewritten
 returns-in-Ok-Some-clause-rewritten g c = λ floor is s h k.
     let f = formats {S = g.row.S.Denot} {P = g.row.S-PublicKey.Denot} g.D.PartialEq.eq g.D.Write.spelling g.S.Signature.Write.spelling g.S.Certificate.Write.spelling g.D.Read.reading g.S.Signature.Read.reading g.S.Certificate.Read.reading (g.S.Scheme.size s.voter.scheme) in
-    let terms : 0 < s.voter.length = subst (λ (o : Owner). 0 < o.term_length) k.set_up.owner_is c.get-_views.ensures.at_least_one in
+    let terms : 0 < s.voter.length = subst (λ (o : Owner). 0 < o.term_length) k.set_up.owner_is c.get-views.ensures.at_least_one in
     let told = told_floor _ (kept_of s.voter.length h) c.in-Ok-Some.view ((rw c.in-Ok-Some.field-0-is at c.in-Ok-Some.ensures.view) (owner_of s) (kept_of s.voter.length h) k.ledger) in
     let law = c.rewrites_leave_nothing_due.ensures f s in
     let lawful = c.what_is_kept_stands_for_all.ensures.lawful f s h k.allowed in
@@ -44,3 +44,24 @@ returns-in-Ok-Some-clause-rewritten g c = λ floor is s h k.
     (c.base.ensures s.voter (voter_of s h) k.voter)
     (λ x. c.quiet_points_leave_the_tables.ensures (finalized_of s h) c.args.self.now.tables h (Rewrote x) refl k.tables)
     told.1.0 told.1.1 told.1.2)
+
+pub returns-in-Ok-Some-clause-view : goal.returns-in-Ok-Some-clause-view
+returns-in-Ok-Some-clause-view g c = λ s h k. (rw c.in-Ok-Some.field-0-is at c.in-Ok-Some.ensures.view) (owner_of s) (kept_of s.voter.length h) k.ledger
+
+pub returns-in-Ok-Some-clause-none_if_it_begins_there : goal.returns-in-Ok-Some-clause-none_if_it_begins_there
+returns-in-Ok-Some-clause-none_if_it_begins_there g c = λ s h k none. let is = c.in-Ok-Some.ensures.none_if_it_begins_there (owner_of s) (kept_of s.voter.length h) k.ledger none in absurd (cc is)
+
+pub returns-in-Ok-None-clause-view : goal.returns-in-Ok-None-clause-view
+returns-in-Ok-None-clause-view g c = λ s h k. (rw c.in-Ok-None.field-0-is at c.in-Ok-None.ensures.view) (owner_of s) (kept_of s.voter.length h) k.ledger
+
+pub returns-in-Err-Device-clause-none_if_it_begins_there : goal.returns-in-Err-Device-clause-none_if_it_begins_there
+returns-in-Err-Device-clause-none_if_it_begins_there g c = λ s h k none. let is = c.in-Err-Device.ensures.none_if_it_begins_there (owner_of s) (kept_of s.voter.length h) k.ledger none in absurd (cc is)
+
+pub returns-in-Err-Memory-clause-any_moment : goal.returns-in-Err-Memory-clause-any_moment
+returns-in-Err-Memory-clause-any_moment g c = λ s h k none keeps.
+    let f = formats {S = g.row.S.Denot} {P = g.row.S-PublicKey.Denot} g.D.PartialEq.eq g.D.Write.spelling g.S.Signature.Write.spelling g.S.Certificate.Write.spelling g.D.Read.reading g.S.Signature.Read.reading g.S.Certificate.Read.reading (g.S.Scheme.size s.voter.scheme) in
+    let terms : 0 < s.voter.length = subst (λ (o : Owner). 0 < o.term_length) k.set_up.owner_is c.get-views.ensures.at_least_one in
+    leave_weaker g.K.Disk _ _ (left_by_rewrite g.S.Scheme g.L.Elector g.K.Disk f s c.args.self.now h k terms (c.rewrites_leave_nothing_due.ensures f s) none) _ _ (c.rewrite.ensures.any_moment (owner_of s) (kept_of s.voter.length h) k.ledger keeps)
+
+pub returns-in-Err-Memory-clause-none_if_it_begins_there : goal.returns-in-Err-Memory-clause-none_if_it_begins_there
+returns-in-Err-Memory-clause-none_if_it_begins_there g c = λ s h k none. let is = c.rewrite.ensures.none_if_it_begins_there (owner_of s) (kept_of s.voter.length h) k.ledger none in absurd (cc (is, c.in-Err-Memory.is))
