@@ -6,7 +6,7 @@ from .acts import statements
 from .codec import artifact_bytes
 from .disks import Disks
 from .history import Found, Rewrote, latest
-from .judging import CONFIG, bytes_of, reset_line
+from .judging import CONFIG, DEVICE, MEMORY, bytes_of, reset_line
 from .member import rewriting
 from .peers import Peers, spelled
 from .player import Player
@@ -116,6 +116,8 @@ class Lives:
         while self.player.setup.fault():
             self.say(f"open {now}", f"fault {CONFIG} {self.player.setup.fault()}")
             self.bring()
+        if self.h is not None and self.chance(0.3):
+            self.crash_in_opening(now)
         found = self.ever.kept
         new = founded(self.player.setup, found)
         actions = self.player.open(now, found)
@@ -168,12 +170,25 @@ class Lives:
     # ---- what crashes
 
     def crash(self):
-        event = self.peers.next(self.wake)[0]
+        events = self.peers.next(self.wake)
+        if not events:
+            self.leave(self.at_rest())
+            return
+        event = events[0]
         left = self.player.crash(event, self.pick)
         self.say(f"event {spelled(event)}", self.pick.choice(("crash", "fault 1", "fault 2")))
+        self.leave_with(self.at_rest(), left)
+
+    def crash_in_opening(self, now):
+        left = self.player.crash_in_opening(now, self.ever.kept, self.pick)
+        self.say(f"open {now}", self.pick.choice(("crash", f"fault {DEVICE}", f"fault {MEMORY}")))
+        self.leave_with(self.disks, left)
+
+    def leave_with(self, disks, left):
+        """On the disk that is read stands what was recorded till then."""
         for artifact in left[len(self.ever.kept) :]:
             self.ever.add(artifact)
-        self.leave(self.at_rest().hold(bytes_of(left)))
+        self.leave(disks.hold(bytes_of(left)))
 
     def crash_in_rewrite(self):
         """The other disk is left as it was, or torn, or whole."""

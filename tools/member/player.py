@@ -53,6 +53,14 @@ class Player:
     def crash(self, event, pick):
         """The node crashes somewhere in a step: what its record holds then."""
         here = self.h if refusal_of(self.h, event) or pick.random() < 0.2 else self.h.then(point_of(self.h, event))
+        return self.cut_off(here, pick)
+
+    def crash_in_opening(self, now, found, pick):
+        """It crashes somewhere in an opening, maybe before the floor that it brings is recorded: what its record holds then."""
+        return found if pick.random() < 0.3 else self.cut_off(read_record(self.setup, now, found)[0], pick)
+
+    def cut_off(self, here, pick):
+        """Some of the acts that are due are done: what the record holds then."""
         while pick.random() < 0.7 and (acts := self.due(here)):
             here = here.then(pick.choice(acts))
         return kept_record(here)
