@@ -19,6 +19,7 @@ const MARKS = {
   "crashed": { colour: "#d0342c", row: 3, shape: "cross", name: "crash" },
   "down": { colour: "#d0342c", row: 3, shape: "triangle", name: "kill" },
   "closed": { colour: "#e08a00", row: 3, shape: "cross", name: "closed by its host" },
+  "rewrote": { colour: "#59b6a5", row: 3, shape: "square", name: "record rewritten" },
   "opened": { event: "opened", colour: "#1d232b", row: 3, shape: "circle", name: "opening" },
   "lost": { colour: "#d0342c", row: 3, shape: "square", name: "record lost" },
   "contradicts": { colour: "#ff0040", row: 3, shape: "star", name: "contradiction" },

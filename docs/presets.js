@@ -335,4 +335,30 @@ const PRESETS =
   "down 3 0 1000000000\n" +
   "reopen 5000\n" +
   "lines some\n" +
+  "run\n" +
+  "# Four members in terms of two views, and a network that loses: each record is rewritten behind three views that became final.\n" +
+  "members 4\n" +
+  "seed 11\n" +
+  "views 20\n" +
+  "lose 50\n" +
+  "term 2 3000 1\n" +
+  "rewrite 3\n" +
+  "lines some\n" +
+  "run\n" +
+  "# Seven members, one of whom is dead for two times: records are rewritten behind two final views, and it opens what is left of its own.\n" +
+  "members 7\n" +
+  "seed 12\n" +
+  "views 24\n" +
+  "down 3 400 900\n" +
+  "down 3 1200 1500\n" +
+  "rewrite 2\n" +
+  "lines some\n" +
+  "run\n" +
+  "# Four members, one of whom crashes inside a rewrite of its record: it finds the one from before, and rewrites that.\n" +
+  "members 4\n" +
+  "seed 21\n" +
+  "views 16\n" +
+  "crash 2 2 57 300\n" +
+  "rewrite 3\n" +
+  "lines some\n" +
   "run\n";

@@ -18,6 +18,7 @@ const LINES = [
   ["skip", "The nodes", [["a leader counts as silent after, ms (0: never)", 0, 0, 1e6]]],
   ["keep", "The nodes", [["views kept below the last final one", 10, 1, 1000]]],
   ["reopen", "The hosts", [["a node without a new view is opened again after, ms (0: never)", 0, 0, 1e6]]],
+  ["rewrite", "The hosts", [["a record is rewritten behind so many final views (0: never)", 0, 0, 10000]]],
 ];
 const WAYS = {
   "silent": "sends nothing", "two-votes": "votes otherwise to members of odd index at times", "two-proposals": "as a leader proposes two payloads",
@@ -77,6 +78,7 @@ function sentenceOf({ numbers, liars, crashes, downs, cuts }) {
   if (numbers.lose[0] || numbers.repeat[0]) said.push(`of a thousand packets ${numbers.lose[0]} are lost and ${numbers.repeat[0]} come twice`);
   if (numbers.doubt[0]) said.push(`of a thousand verdicts ${numbers.doubt[0]} are bad`);
   if (numbers.reopen[0]) said.push(`a node without a new view for ${numbers.reopen[0] / 1000} s is opened again`);
+  if (numbers.rewrite[0]) said.push(`a record is rewritten behind ${count(numbers.rewrite[0], "final view", "final views")}`);
   if (numbers.term[0] > 1) said.push(`terms of ${numbers.term[0]} views${numbers.term[2] ? `, ${numbers.term[2]} ahead` : ""}`);
   return `${count(members, "member", "members")}, ${count(numbers.views[0], "view", "views")}: ${said.join("; ") || "nobody lies and nothing is lost"}.`;
 }

@@ -18,7 +18,7 @@ const LED = {
 function told(event, { world, ways }, led) {
   const { member, view, payload, parent, kind } = event, quorum = world.members - world.faults, who = `Member ${member}`;
   const votes = `${quorum} of ${world.members} members`, liars = Object.keys(ways).length, shared = 2 * quorum - world.members;
-  switch (kind === undefined || event.event === "lied" ? event.event : `${event.event} ${kind}`) {
+  switch (kind === undefined || ["lied", "found"].includes(event.event) ? event.event : `${event.event} ${kind}`) {
     case "opened": return event.life > 1
       ? [`${who} is up again, in view ${view}.`, "It went through what its disk kept. Votes and certificates stand on the disk before they are sent, so it contradicts nothing that it said before."]
       : [`${who} opens its record, in view ${view}.`, "What stands in a record counts as if it were done now. This one is empty."];
@@ -33,7 +33,10 @@ function told(event, { world, ways }, led) {
     case "judged": return [`${who}'s application says yes to payload ${payload} of view ${view}.`, "The verdict is recorded. Only behind it the member may vote to finalize, and it goes on to the next view."];
     case "finalized": return [`At member ${member} payload ${payload} of view ${view} is final.`, `It, or what was built on it, was finalized by a quorum. Two quorums share at least ${shared} members${liars > world.faults
       ? `; ${liars} lie here, more than the ${world.faults} that may, so another chain can be final too.` : `, more than the ${world.faults} that may lie: so another chain can't be final too.`}`];
-    case "crashed": return [`${who} crashes inside a call of its disk; ${event.bytes} bytes are left there.`, "Of the write some bytes stand, of what wasn't synced a part. Nothing that rests on the lost part was handed out."];
+    case "rewrote": return [`${who}'s host rewrites its record, which begins with the finalization of view ${event.floor} now.`, "What doesn't reach above that view is dropped, on the disk and from the node's memory: nothing rests on it any more. Nothing is handed out."];
+    case "found": return [`${who} finds in its record: ${kind}, view ${view}${payload === undefined ? "" : `, payload ${payload}`}.`, "An opening goes through the record from its beginning, and reports all that stands there once more."];
+    case "crashed": if (event.in) return [`${who} crashes while its record is rewritten; ${event.bytes} bytes are left on its two disks.`, "The record from before stays whole on the one, until the new one is whole on the other. The next opening finds this one or that."];
+      return [`${who} crashes inside a call of its disk; ${event.bytes} bytes are left there.`, "Of the write some bytes stand, of what wasn't synced a part. Nothing that rests on the lost part was handed out."];
     case "down": return [`${who} is killed, and will be opened again at ${(event.until / 1000).toFixed(2)} s.`, "What it wrote stays on its disk. Packets that come to it by then are lost, and nobody sends them again."];
     case "closed": return [`${who}'s host closes its node, which stands in view ${view}, and opens the record again.`, `It entered no view for ${event.waited / 1000} s. What a node lacks it asks for once in a life, so where that ask or each answer was lost, a new life asks again.`];
     case "lost": return [`${who}'s record isn't opened again.`, "This never comes where the disk kept what disks keep: it would be a broken promise."];

@@ -57,11 +57,11 @@ def setup_of(given):
     )
 
 
-def found_line(artifacts, cut):
+def found_line(artifacts, cut, path="m"):
     """What is said of a record that is opened."""
     highest = max((it.view for it in artifacts), default=0)
     final = max((it.view for it in artifacts if isinstance(it, Certificate) and it.kind == FINALIZATION), default=0)
-    return (f"record: m: {len(artifacts)} entries, up to view {highest}, finalized up to view {final}; "
+    return (f"record: {path}: {len(artifacts)} entries, up to view {highest}, finalized up to view {final}; "
             f"{cut} bytes behind them are left out\n")
 
 
@@ -184,8 +184,64 @@ def records(script):
     script.ask("member 0 - 04ac0205", "3 " + WAKES * 2 + " " + quoted(found_line((), 0) + "fault at byte 3\n") + " 00")
 
 
+# Two disks
+
+GENERATION = b"\2\xff\xff\xff\xff\0\0\0\1"
+NONE_BEGINS = "since no record begins with its first byte; does the path name another file?"
+
+
+def paired(script, title, lines, disks, answer, faults, left_, events="-", cuts=0):
+    script.note("a member by a file, over two disks: " + title)
+    script.reset()
+    script.ask("lines " + " ".join(lines), sum(len(it) + 1 for it in lines))
+    script.ask("file", '0 ""')
+    given, right = (" ".join(map(digits, it)) for it in (disks, left_))
+    script.ask(f"pair {cuts} {given} {events}", f"{answer} {quoted(faults)} {right}")
+
+
+def pairs(script):
+    scheme = PlainScheme(4)
+    vote = scheme.sign("nullify", Round(0, 1), 0)
+    given_up, other = (artifact_bytes(scheme.sign("nullify", Round(0, 1), it)) for it in (0, 1))
+    whole, empty = entries(given_up) + b"\0", found_line((), 0)
+    life = Life(dict(it.split("=") for it in FRONT))
+    life.found("nullify 0 0 0 1")
+    life.line("open 0", "report nullify 0 0 0 1 , wake 5000")
+    replies, being_written = digits(life.replies), b"\0" + GENERATION[1:] + b"\1"
+    for title, disks, told in (
+        ("a record of one disk", (whole, b""), found_line((vote,), 0) + found_line((), 0, "m.2")),
+        ("a generation of the second is read", (b"\0", GENERATION + whole), empty + found_line((vote,), 0, "m.2")),
+        ("one that is being written isn't", (whole, being_written), found_line((vote,), 0) + found_line((), len(being_written) - 1, "m.2")),
+    ):
+        paired(script, title, FRONT, disks, f"0 {replies}", told, disks)
+    for title, disks, fault, path, why in (
+        ("no record begins on the first", (b"text", b""), 6, "m", NONE_BEGINS),
+        ("nor on the second", (whole, b"text"), 6, "m.2", NONE_BEGINS),
+        ("nor in a generation", (whole, GENERATION + b"\2"), 6, "m.2", NONE_BEGINS),
+        ("a generation that is numbered 0 is none", (GENERATION[:-1] + b"\0\0", b""), 6, "m", NONE_BEGINS),
+        ("another member's record on the second", (whole, entries(other) + b"\0"), "5 at 0", "m.2", unlawful(0).removeprefix(LEFT)),
+        ("the same in a generation", (whole, GENERATION + entries(other) + b"\0"), "5 at 0", "m.2", unlawful(0).removeprefix(LEFT)),
+        ("an entry of a generation that is no artifact", (whole, GENERATION + entries(b"\x09") + b"\0"), "4 at 9", "m.2",
+         "since no artifact stands at byte 9; does the path name another file?"),
+    ):
+        told = found_line((vote,), 0) if path == "m.2" else ""
+        paired(script, title, FRONT, disks, "1 -", f"{told}error: open {fault}\nrecord: {path}: {LEFT}{why}\n", disks)
+    torn = GENERATION + entries(given_up) + b"\7"
+    why = f"{LEFT}since its end is gone: no whole entry stands behind the gate at byte {len(torn) - 1}, which isn't closed{CUTS}"
+    paired(script, "a last gate of a generation that isn't closed", FRONT, (b"", torn), "1 -", f"{empty}error: open 6\nrecord: m.2: {why}\n", (b"", torn))
+    told = empty + found_line((vote,), 0, "m.2")
+    paired(script, "it is closed by who asks to cut", FRONT, (b"", torn), f"0 {replies}", told, (b"", torn[:-1] + b"\0"), cuts=1)
+    rows = (TOP / "tools/cli-floors.script").read_text().splitlines()
+    place = next(it for it, row in enumerate(rows) if row.startswith("serve 0 1"))
+    asked, served, held = (row.split() for row in rows[place - 1:place + 2])
+    told = empty + found_line((), 0, "m.2")
+    paired(script, "at the end of the input the record is rewritten", ("members=1", "member=0"), (b"", b""), f"0 {served[6]}", told,
+           map(bytes.fromhex, held[2:]), asked[2])
+
+
 def member_rows():
     script = Script()
     lives(script)
     records(script)
+    pairs(script)
     return list(zip(script.calls, script.answers))

@@ -9,14 +9,16 @@ import sys
 from pathlib import Path
 
 from member.codec import Reader, Unreadable, artifact_bytes, event_bytes
-from member.record import bodies
+from member.record import bodies, finalizes, floor_of
 from member.scheme import PlainScheme
 from member.setup import Setup
-from member.values import FINALIZE, NULLIFY, VOTE_CHANNEL, Certificate, Certified, Report, Send, Verdict, Vote
+from member.values import FINALIZE, NULLIFICATION, NULLIFY, VOTE_CHANNEL, Certificate, Certified, Report, Send, Verdict, Vote
 
 TOP = Path(__file__).resolve().parent.parent
 PROGRAM = TOP / "crates" / "simplex" / "out" / "simplex"
 USAGE = "usage: simplex audit COUNT | simplex node RECORD INDEX COUNT\n"
+# what a file begins with that holds a generation of a record, and how many bytes stand in front of that
+GENERATION, HEAD = b"\2\xff\xff\xff\xff", 9
 
 
 def setup_of(index, count):
@@ -43,6 +45,45 @@ def replies_of(setup, output):
         replies.append((reply, output[place : reader.place]))
         place = reader.place
     return replies, output[place:]
+
+
+def files_of(path):
+    """The two files of a record."""
+    return Path(path), Path(f"{path}.2")
+
+
+def remove(path):
+    """Removes both files of a record."""
+    for file in files_of(path):
+        file.unlink(missing_ok=True)
+
+
+def parted(data):
+    """The generation that a file holds, 0 for none, and its record."""
+    number = int.from_bytes(data[len(GENERATION):HEAD], "big") if data.startswith(GENERATION) and len(data) > HEAD else 0
+    return number, data[HEAD:] if number else data
+
+
+def held_in(path):
+    """What the two files of a record hold: the generation of the one that is read, its record, and that of the other."""
+    first, second = (parted(it.read_bytes() if it.exists() else b"") for it in files_of(path))
+    read, other = (first, second) if first[0] >= second[0] else (second, first)
+    return *read, other[1]
+
+
+def reach(setup, artifact):
+    """Up to which view an artifact reaches: a nullification to the end of its term."""
+    is_nullification = isinstance(artifact, Certificate) and artifact.kind == NULLIFICATION
+    return setup.terms.next_start(artifact.view) - 1 if is_nullification else artifact.view
+
+
+def kept(setup, artifacts):
+    """What a rewrite keeps of a record: the finalization of the last finalized view, and what reaches above that."""
+    last = max([0, *map(finalizes, artifacts)])
+    if last == floor_of(artifacts):
+        return artifacts
+    final = next(it for it in artifacts if finalizes(it) == last)
+    return [final, *(it for it in artifacts if reach(setup, it) > last)]
 
 
 def artifacts_in(setup, data):

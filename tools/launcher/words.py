@@ -4,13 +4,13 @@ import re
 # By the line that `simplex node RECORD INDEX COUNT` or `simplex audit COUNT` ends with.
 MEANINGS = (
     (r"error: memory", "memory ran out. Nothing that was acknowledged is lost: free memory, and start it again on the same record."),
-    (r"error: device", "RECORD can't be opened, made or locked, or the input can't be read. Perhaps its folder isn't there, its rights are "
+    (r"error: device", "RECORD or RECORD.2 can't be opened, made or locked, or the input can't be read. Perhaps the folder isn't there, rights are "
      "missing, or another process has this record open: only one may. Of a record the next line says which."),
-    (r"error: open 4 at (\d+)", "RECORD isn't a record: at byte {0} no entry of one begins. Look whether the path names another file. "
+    (r"error: open 4 at (\d+)", "RECORD or RECORD.2 isn't a record: at byte {0} no entry of one begins. Look whether the path names another file. "
      "Start no node on a copy from elsewhere: give the member a new name."),
-    (r"error: open 5 at (\d+)", "RECORD is no record of this member: entry {0} (counted from 0) breaks the rules behind those before it. Look "
-     "whether INDEX and COUNT are those that it was written with; simplex_tool dump record RECORD prints its entries."),
-    (r"error: open 6", "RECORD isn't opened: it can't be read or written, or isn't what a crash leaves of a record; the next line says which."),
+    (r"error: open 5 at (\d+)", "RECORD or RECORD.2 is no record of this member: entry {0} (counted from 0) breaks the rules behind those before it. "
+     "Look whether INDEX and COUNT are those that it was written with."),
+    (r"error: open 6", "RECORD or RECORD.2 can't be read or written, or isn't what a crash leaves of a record; the next line says which."),
     (r"error: open 7", "memory ran out while RECORD was read. Free memory, and start it again."),
     (r"error: open (\d+)", "this member can't be set up so (fault {0} of an opening, docs/FORMATS.md). The record wasn't touched."),
     (r"error: step 1", "memory ran out inside a step, none of which left. Free memory, and start it again on the same record."),

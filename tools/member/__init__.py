@@ -22,6 +22,7 @@ Nothing here is taken from the node's code. Read in this order:
     member           steps, openings and rewrites: whether a reply is allowed; what a crash may leave
     disks            one disk or two: which is read, and what a rewrite writes where
     player           a node that does what is due, in an order that a seed picks
+    in_order         such a node that does it in the order of the product's
     words, judging   cases as text, and what the model says of them
     peers            what comes to a node in generated scripts
     lives            generated lives over two disks, and the laws on all that is ever recorded

@@ -6,7 +6,7 @@ from .acts import statements
 from .codec import artifact_bytes
 from .disks import Disks
 from .history import Found, Rewrote, latest
-from .judging import CONFIG, DEVICE, MEMORY, bytes_of, reset_line
+from .judging import CONFIG, DEVICE, MEMORY, bytes_of, is_cut, reset_line
 from .member import rewriting
 from .peers import Peers, spelled
 from .player import Player
@@ -72,10 +72,11 @@ def test_history(h):
 
 
 class Lives:
-    """A member, its disks, and all that it ever recorded; each call is told with what it answers."""
+    """A member, its disks, and all that it ever recorded; each call is told with what it answers. `brings`: openings bring
+    finalizations."""
 
-    def __init__(self, pick, setup, order):
-        self.pick, self.setup, self.player = pick, setup, Player(setup, order)
+    def __init__(self, pick, setup, order, brings=True):
+        self.pick, self.setup, self.player, self.brings = pick, setup, Player(setup, order), brings
         self.disks, self.ever, self.wake, self.calls = Disks(b"", b""), Ever(setup), None, []
         self.say(reset_line(setup).replace("node", "pair", 1), "ok")
         self.open(0)
@@ -103,6 +104,8 @@ class Lives:
 
     def bring(self):
         """The opening brings a finalization, or the payload of view 0."""
+        if not self.brings:
+            return
         if self.chance(0.3):
             brought = self.finalization()
             self.player.setup = self.setup.on_floor(brought)
@@ -230,3 +233,21 @@ def lives(seed, number, count):
     """The calls of the lives of this number, and what they answer."""
     pick, order = random.Random(f"{seed} {number} lives"), random.Random(f"{seed} {number} order")
     return Lives(pick, setup_of(pick, True), order).go(count)
+
+
+def founded_by_none(seed, number, count):
+    """The same of lives in which no opening brings a finalization, and what is due is done in the fixed order."""
+    pick = random.Random(f"{seed} {number} rewrites")
+    return Lives(pick, setup_of(pick, True), None, brings=False).go(count)
+
+
+def calls(seed, number, count):
+    """The calls of these as the node's driver reads them. A node that crashed is one whose disks are replaced by two that hold what the
+    crash left."""
+    was_cut = False
+    for call, answer in founded_by_none(seed, number, count):
+        if was_cut:
+            yield f"disk {answer}"
+        elif not is_cut(answer):
+            yield call
+        was_cut = is_cut(answer)

@@ -6,7 +6,7 @@ ghost use Rattle.cli_settings.specs.Checking.{IsGood};
 ghost use Rattle.cli_hosted.specs.Members.{AreLeaders, PlainReply, committee_of};
 ghost use Rattle.journal_books.specs.declared.disks.Disks.TheVariants.{One};
 ghost use Rattle.simplex_member.specs.declared.action.Reply.{Reply};
-ghost use Rattle.simplex_member.specs.Setup.{setup_of};
+ghost use Rattle.simplex_member.specs.Setup.{brought_by, setup_of};
 ghost use Rattle.node_steps.specs.Keeps.{AtOwn};
 ghost use Rattle.node_steps.specs.Opening.{IsOpenAndSettled};
 ghost use Rattle.simplex_node.specs.Running.{RunFails, RunsTo};
@@ -30,6 +30,7 @@ use std::rc::Rc;
 use types_core::{Digest, Scheme, Sha256Digest, Write};
 use types_terms::Elector;
 use types_terms::elector::RoundRobinElector;
+use voter_rules::Floor;
 use voter_rules::config::Config;
 
 /// A member's node over a disk that a host keeps.
@@ -192,7 +193,7 @@ fn set_up_by<K: Disk>(
         (⟦<PlainScheme as Speaks<Sha256Digest>>⟧.formats settings.now.committee.members)
         (setup_of ⟦<PlainScheme as Scheme<Sha256Digest>>⟧ ⟦<RoundRobinElector as Elector<PlainScheme, Sha256Digest>>⟧
         (config_of settings.now) (committee_of settings.now) leaders settings.now.member)
-        ⟦<PlainScheme as Speaks<Sha256Digest>>⟧.readable (One disk) 0 node first.actions.items) }
+        ⟦<PlainScheme as Speaks<Sha256Digest>>⟧.readable None (One disk) 0 node first.actions.items) }
 {
     let Ok(scheme) = settings.scheme(alloc) else {
         return Err(OpenFault::Memory);
@@ -206,7 +207,7 @@ fn set_up_by<K: Disk>(
 /// Opens a member's record at moment 0, and spells what that hands out as a reply.
 fn begin<S: Scheme<D> + Drop, L: Elector<S, D>, D: Digest, K: Disk>(
     alloc: Global,
-    config: Config<D>,
+    config: Config<Floor<S, D>>,
     scheme: Rc<S>,
     elector: L,
     disk: K,
@@ -218,7 +219,8 @@ fn begin<S: Scheme<D> + Drop, L: Elector<S, D>, D: Digest, K: Disk>(
         ×
         (replies.new.items ≡ replies.old.items ++ spelled S.PublicKey.spelling D.spelling S.Signature.spelling S.Certificate.spelling first)
         × IsOpenAndSettled S.Scheme L.Elector K.Disk (⟦<S as Speaks<D>>⟧.formats (S.size scheme.value))
-        (setup_of S.Scheme L.Elector config scheme.value elector index) ⟦<S as Speaks<D>>⟧.readable (One disk) 0 node first.actions.items) }
+        (setup_of S.Scheme L.Elector config scheme.value elector index) ⟦<S as Speaks<D>>⟧.readable (brought_by config.floor) (One disk) 0 node
+        first.actions.items) }
 {
     let mut output = CountedWriter::new(mem::replace(replies, Vec::new(alloc)));
     let opened = open_io(alloc, config, scheme, elector, disk, 0, &mut output);

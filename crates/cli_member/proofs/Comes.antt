@@ -1,5 +1,5 @@
 -- What a program comes to that runs by the index, the committee and the leaders of its settings.
-use Rattle.std.proofs.Common.{◌≡◌, ◌⊎◌, inl, inr, sym, ap, ◌∙◌, subst, refl, ℕ, List, Option, Some}
+use Rattle.std.proofs.Common.{◌≡◌, ◌⊎◌, inl, inr, sym, ap, ◌∙◌, subst, refl, ℕ, Bool, List, Option, Some}
 use Rattle.std.specs.Prelude.{Result, Err, unwrap_or, ⊤}
 use Rattle.types_terms.specs.Rotation.{Rotation}
 use Rattle.simplex_types.specs.Plain as plain
@@ -8,7 +8,7 @@ use Rattle.simplex_member.specs.declared.fault.OpenFault.{OpenFault}
 use Rattle.cli_settings.specs.declared.setting.Committee.{Committee}
 use Rattle.simplex_cli.specs.declared.ending.Ending.{Ending}
 use Rattle.simplex_cli.specs.declared.ending.Ending.TheVariants as ending
-use Rattle.simplex_cli.specs.Serving.{ended_of}
+use Rattle.simplex_cli.specs.Serving.{EndsAs}
 use Rattle.cli_opening.specs.Members.{AreLeaders}
 
 some-is : {X : Type 0} (x y : X) → Some x ≡ Some y → x ≡ y
@@ -23,13 +23,13 @@ committee_is v base count me b n m =
     (subst (λ (x : Option ℕ). v ≡ record { base = v.base; participants = v.participants; me = x }) m refl))
 
 -- no record was opened, or the node ran by the index that its scheme has
-pub comes_by : (own : Option ℕ) (member : ℕ) (ended : Result ⊤ Ending) (Untouched : Type 0) (Run : Result ⊤ IoFault → ℕ → Type 0) → own ≡ Some member
-    → ((why : OpenFault) × (ended ≡ Err (ending.Open why)) × Untouched)
-    ⊎ ((io : Result ⊤ IoFault) × (index : ℕ) × (ended ≡ ended_of io) × (own ≡ Some index) × Run io index)
+pub comes_by : (own : Option ℕ) (member : ℕ) (ended : Result ⊤ Ending) (Untouched : Type 0) (Unopened : OpenFault → Type 0) (two : Bool) (Run : Result ⊤ IoFault → ℕ → Type 0) → own ≡ Some member
+    → ((why : OpenFault) × (ended ≡ Err (ending.Open why)) × Untouched × Unopened why)
+    ⊎ ((io : Result ⊤ IoFault) × (index : ℕ) × EndsAs io two ended × (own ≡ Some index) × Run io index)
     → (((ended ≡ Err ending.Memory) ⊎ ((why : OpenFault) × (ended ≡ Err (ending.Open why)))) × Untouched)
-    ⊎ ((io : Result ⊤ IoFault) × (ended ≡ ended_of io) × Run io member)
-comes_by own member ended Untouched Run mine (inl (why, is, same)) = inl (inr (why, is), same)
-comes_by own member ended Untouched Run mine (inr (io, index, is, owns, run)) =
+    ⊎ ((io : Result ⊤ IoFault) × EndsAs io two ended × Run io member)
+comes_by own member ended Untouched Unopened two Run mine (inl (why, is, same, unopened)) = inl (inr (why, is), same)
+comes_by own member ended Untouched Unopened two Run mine (inr (io, index, is, owns, run)) =
     let same : index ≡ member = some-is index member (sym owns ∙ mine) in
     inr (io, is, subst (λ (n : ℕ). Run io n) same run)
 

@@ -1,11 +1,11 @@
-//! A member's node by its settings: over a disk, which is looked at first and left as it is where it holds no record of this member, and
-//! over streams.
+//! A member's node by its settings: over one disk or two, which are looked at first and left as they are where they hold no record of this
+//! member, and over streams.
 #![tactic(auto)]
 
 mod looking;
 mod running;
 mod words;
 
-pub use looking::look_for;
-pub use running::{drive_member, member_over};
+pub use looking::{half_for, look_for};
+pub use running::{drive_member, member_over, pair_over};
 pub use words::HELP;

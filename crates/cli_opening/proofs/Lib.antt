@@ -1,2 +1,3 @@
 pub mod Barring
+pub mod Heads
 pub mod Nothing

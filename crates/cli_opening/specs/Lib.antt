@@ -1,3 +1,4 @@
+pub mod Halves
 pub mod Looking
 pub mod Members
 pub mod Saying

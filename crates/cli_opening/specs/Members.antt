@@ -9,6 +9,7 @@ use Rattle.cli_settings.specs.declared.setting.Settings.{Settings}
 use Rattle.cli_settings.specs.Building.{seed_of, timing_of}
 use Rattle.cli_opening.specs.declared.looking.Barred.{Barred}
 use Rattle.cli_opening.specs.declared.looking.Found.{Found}
+use Rattle.cli_opening.specs.Halves.{IsBarredOnHalf, IsFoundOnHalf}
 use Rattle.cli_opening.specs.Looking.{IsBarredBy, IsFoundBy}
 
 -- whose record a member's is
@@ -22,6 +23,13 @@ IsFoundFor s = IsFoundBy s.committee.base.items s.committee.members (owner_of s)
 -- why these bytes are left as they are
 abbrev pub IsBarredFor : Settings → List ℕ → Barred → Type 0
 IsBarredFor s = IsBarredBy s.committee.base.items s.committee.members (owner_of s)
+
+-- the same of one of two disks
+abbrev pub IsHalfFoundFor : Settings → Bool → List ℕ → Found → Type 0
+IsHalfFoundFor s = IsFoundOnHalf s.committee.base.items s.committee.members (owner_of s)
+
+abbrev pub IsHalfBarredFor : Settings → List ℕ → Barred → Type 0
+IsHalfBarredFor s = IsBarredOnHalf s.committee.base.items s.committee.members (owner_of s)
 
 -- the committee as this member has it: all sign under one base
 abbrev pub committee_of : Settings → plain.Committee

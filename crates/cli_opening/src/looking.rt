@@ -215,7 +215,7 @@ fn all_in(alloc: Global, bytes: &[u8]) -> Result<Entries<Plain>, Strange>
 }
 
 /// Whose record a member's is that the program runs.
-fn owner_at(index: u16) -> Owner
+pub(crate) fn owner_at(index: u16) -> Owner
     ensures { result ≡ owner_of index }
 {
     Owner {

@@ -11,7 +11,7 @@ use types_codec::write_whole;
 
 /// How the program is called, for a person who asks.
 pub const HELP: &str =
-    "usage: simplex COMMAND, under the plain scheme over the base simplex\n  audit COUNT                     who of COUNT members contradicts itself in reports on standard input, a line for each evidence\n  node RECORD INDEX COUNT         member INDEX of COUNT over the file RECORD: events on standard input, replies on standard output\n  node RECORD INDEX COUNT --cut   the same; what stands behind the last whole entry of RECORD is cut, whatever it is\n  --help, --version\n";
+    "usage: simplex COMMAND, under the plain scheme over the base simplex\n  audit COUNT                     who of COUNT members contradicts itself in reports on standard input, a line for each evidence\n  node RECORD INDEX COUNT         member INDEX of COUNT over the files RECORD and RECORD.2: events on standard input, replies on standard output\n  node RECORD INDEX COUNT --cut   the same; what stands behind the last whole entry of its record is cut, whatever it is\n  --help, --version\n";
 
 /// Which version of the formats the program reads.
 pub const VERSION: &str = "simplex: version 1 of the formats\n";

@@ -4,5 +4,5 @@
 mod opening;
 mod telling;
 
-pub use opening::{disk_at, hold_streams, record_at};
+pub use opening::{disk_at, hold_streams, record_at, second_path, written_into_either};
 pub use telling::{left, unopened};

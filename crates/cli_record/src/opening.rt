@@ -1,11 +1,11 @@
 //! The file of a record that is opened for a node.
 
-ghost use Rattle.std.specs.Prelude.{◌≡◌, false, IfErr, IfOk, IfSome, IsNone, OnOk};
+ghost use Rattle.std.specs.Prelude.{◌≡◌, ◌++◌, codes, false, IfErr, IfOk, IfSome, IsNone, OnOk, string_bytes};
 
 use crate::telling::unopened;
 use cli_audit::{Trouble, report};
 use journal_single::FileDisk;
-use std::alloc::Global;
+use std::alloc::{AllocError, Global};
 use std::fs::{self, File, OpenOptions};
 use std::io;
 use std::io::Write;
@@ -42,6 +42,16 @@ pub fn disk_at<R: Files<File = File>>(files: &R, path: &str) -> io::Result<FileD
     FileDisk::open(files, path)
 }
 
+/// The path of the second file of a record: that of the first, and `.2` behind it.
+pub fn second_path(alloc: Global, path: &str) -> Result<String, AllocError>
+    ensures { IfOk result (λ second. string_bytes second ≡ path.now ++ codes ".2") }
+{
+    let mut second = String::new(alloc);
+    second.push_str(path)?;
+    second.push_str(".2")?;
+    Ok(second)
+}
+
 /// Whether what stands at the first path is the file at the second.
 fn is_same<R: Files<File = File>>(files: &R, stream: &str, path: &str) -> io::Result<bool> {
     let record = fs::metadata(files, path)?;
@@ -73,6 +83,27 @@ fn written_into<R: Files<File = File>, F: Write>(
         return Some(status);
     }
     None
+}
+
+/// The status where one of the two files of a record is also a stream of this program, with words of why on `faults` where that is in
+/// neither of them: before the first is known to be apart from standard error, nothing may be told of the second.
+pub fn written_into_either<R: Files<File = File>, F: Write>(
+    alloc: Global,
+    files: &R,
+    path: &str,
+    second: &str,
+    faults: &mut F,
+) -> Option<u8>
+    ensures status { IfSome result (λ status. status ≡ 1) }
+    ensures silent { IsNone result → faults.new ≡ faults.old }
+{
+    if let Ok(true) = is_same(files, "/dev/stderr", second) {
+        return Some(1);
+    }
+    if let Some(status) = written_into(alloc, files, path, faults) {
+        return Some(status);
+    }
+    written_into(alloc, files, second, faults)
 }
 
 /// The disk in the file of the record at this path.

@@ -1,16 +1,20 @@
 -- What a node is made of by its settings.
 use Rattle.std.specs.Prelude.{ℕ, zero, suc, List, Option, option_map}
+use Rattle.types_core.specs.declared.attestation.Attestation.{Attestation}
 use Rattle.types_terms.specs.Terms.{Timing, rotating, stable}
+use Rattle.simplex_types.specs.Plain as plain
 use Rattle.voter_rules.specs.declared.config.Config.{Config}
+use Rattle.voter_rules.specs.declared.floor.Floor.{Floor}
+use Rattle.voter_rules.specs.declared.floor.Floor.TheVariants as floor
 use Rattle.cli_settings.specs.declared.setting.Committee.{Committee}
 use Rattle.cli_settings.specs.declared.setting.Settings.{Settings}
 use Rattle.cli_settings.specs.declared.setting.Turns.{Turns}
 
 -- what a node is opened with
-abbrev pub config_of : Settings → Config (List ℕ)
+abbrev pub config_of : Settings → Config (Floor plain.Committee (List ℕ) ℕ (List ℕ) (List (Attestation (List ℕ))))
 config_of s = record {
   epoch = s.committee.epoch;
-  floor = s.committee.genesis;
+  floor = floor.Genesis s.committee.genesis;
   leader_timeout = s.conduct.leader_timeout;
   certification_timeout = s.conduct.certification_timeout;
   timeout_retry = s.conduct.timeout_retry;

@@ -13,6 +13,7 @@ use std::alloc::{AllocError, Global};
 use std::rc::Rc;
 use types_core::{Participant, Sha256Digest, TermLength, ViewDelta};
 use types_terms::elector::{Config as Building, Elector, RoundRobin, RoundRobinElector};
+use voter_rules::Floor;
 use voter_rules::config::Config;
 
 impl Turns {
@@ -77,13 +78,13 @@ impl Committee {
 
 impl Settings {
     /// What a node is opened with.
-    pub fn config(&self) -> Config<Sha256Digest>
+    pub fn config(&self) -> Config<Floor<PlainScheme, Sha256Digest>>
         ensures { result ≡ config_of self.now }
     {
         let conduct = self.conduct;
         Config {
             epoch: self.committee.epoch,
-            floor: self.committee.genesis,
+            floor: Floor::Genesis(self.committee.genesis),
             leader_timeout: conduct.leader_timeout,
             certification_timeout: conduct.certification_timeout,
             timeout_retry: conduct.timeout_retry,

@@ -1,5 +1,5 @@
 -- A record over one disk or over two, in the same words: what is read of them, and no image.
-use Rattle.std.specs.Prelude.{◌≡◌, ◌⊎◌, ◌-◌, ◌^◌, ℕ, Bool, true, false, List, [], ◌∷◌, ◌++◌}
+use Rattle.std.specs.Prelude.{◌≡◌, ◌⊎◌, ◌-◌, ◌^◌, nat_lt, ℕ, Bool, true, false, List, [], ◌∷◌, ◌++◌}
 use Rattle.journal_single.specs.declared.disk.Disk as disk
 use Rattle.journal_single.specs.Disk.{MayLeave, LeavesOnly, Synced, counted}
 use Rattle.journal_single.specs.Journal.{IsRecord, IsTooLong}
@@ -42,6 +42,11 @@ module _ {M K : Type 0} where
   abbrev pub generation_of : Books M K → ℕ
   generation_of (books.One journal) = 0
   generation_of (books.Two pair) = pair.generation
+
+  -- whether the record can be made another list: it is over two disks, and the one that is read isn't of the last generation
+  abbrev pub may_rewrite : Books M K → Bool
+  may_rewrite (books.One journal) = false
+  may_rewrite (books.Two pair) = nat_lt pair.generation (2 ^ 32 - 1)
 
   -- a body of so many bytes is too long behind the record
   abbrev pub IsTooLongFor : Books M K → ℕ → Type 0

@@ -2,7 +2,7 @@
 
 ghost use Rattle.std.specs.Prelude.{◌≡◌, ◌≢◌, ◌⊎◌, ◌+◌, ◌-◌, ◌<◌, ◌^◌, ◌++◌, [], ◌∷◌, List, ℕ, length, map, All, OnOk, IfErr, IsErrOf, true, false};
 ghost use Rattle.simplex_journal.specs.declared.fault.PairFault.TheVariants.{Device, Exhausted, Failed, Memory, TooLong};
-ghost use Rattle.journal_books.specs.Books.{Leave, LeaveBook, HasFailed, HasNotFailed, IsBook, IsTooLongFor, IsWithOrWithout, are_two, disks_of, generation_of, has_failed};
+ghost use Rattle.journal_books.specs.Books.{Leave, LeaveBook, HasFailed, HasNotFailed, IsBook, IsTooLongFor, IsWithOrWithout, are_two, disks_of, generation_of, has_failed, may_rewrite};
 ghost use Rattle.simplex_journal.specs.Standing.{IsShortList};
 
 use crate::disks::Disks;
@@ -27,6 +27,16 @@ impl<M: Read + EncodeSize + Drop, K: Disk> Books<M, K> {
         match self {
             Books::One(_) => false,
             Books::Two(_) => true,
+        }
+    }
+
+    /// Whether a list can be made the record: over two disks, until the last generation.
+    pub fn may_rewrite(&self) -> bool
+        ensures { result ≡ may_rewrite self.now }
+    {
+        match self {
+            Books::One(_) => false,
+            Books::Two(pair) => pair.generation() < u32::MAX,
         }
     }
 

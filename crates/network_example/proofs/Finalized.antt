@@ -630,7 +630,7 @@ module _ {S D P G C : Type 0} (g : Ghosts S D P G C) (f : Formats S D P G C) (x 
 
   -- the rewrite behind its second finalization
   pub rewritten-so : IsRewritten g f s h5 (finalization_behind g x 1)
-  rewritten-so = record { allowed = record { order = refl; due = record { able = refl; terms = omega arith; next = refl }; fits = tt; readable = tt }; none_due = none-sixth }
+  rewritten-so = record { allowed = record { order = refl; due = record { terms = omega arith; next = refl }; fits = tt; readable = tt }; none_due = none-sixth }
 
   -- ---- from point to point
 

@@ -69,7 +69,6 @@ module _ {S D C : Type 0} where
     silence = None;
     forward = policy.Disabled;
     tracks = false;
-    rewrites = false;
   }
 
   -- the proposal of the round

@@ -65,7 +65,6 @@ module _ {S D C : Type 0} where
     silence = None;
     forward = policy.Disabled;
     tracks = false;
-    rewrites = false;
   }
 
 module _ {S D P G C : Type 0} where

@@ -69,7 +69,6 @@ module _ {S D C : Type 0} where
     silence = None;
     forward = policy.Disabled;
     tracks = false;
-    rewrites = true;
   }
 
 module _ {S D P G C : Type 0} (g : Ghosts S D P G C) (x : Lone S D G C) where

@@ -10,7 +10,7 @@ use Rattle.simplex_member.specs.Layers.{is_begun, latest}
 use Rattle.simplex_member.specs.Member.{AreFound, Goes}
 use Rattle.simplex_member.specs.Packet.{Formats}
 use Rattle.simplex_member.specs.Point.{Point, Opened, Found, Began, History}
-use Rattle.simplex_member.specs.Recorded.{record_of}
+use Rattle.simplex_member.specs.Recorded.{kept_of, record_of}
 use Rattle.simplex_member.specs.Setup.{Setup}
 use Rattle.node_core.proofs.Going.{goes_on}
 use Rattle.node_core.specs.GoingThrough.{IsReading, Opens, deeds_along}
@@ -26,6 +26,14 @@ module _ {S D P G C : Type 0} where
   reading-unbegun now (Opened t ∷ p ∷ h) is = absurd is
   reading-unbegun now (Found x taken ∷ h) is = reading-unbegun now h is
   reading-unbegun now (p ∷ h) is = absurd is
+
+  -- nothing is rewritten meanwhile
+  pub reading-kept : (views now : ℕ) (h : History S D P G C) → IsReading now h → kept_of views h ≡ record_of h
+  reading-kept views now [] is = refl
+  reading-kept views now (Opened t ∷ []) is = refl
+  reading-kept views now (Opened t ∷ p ∷ h) is = absurd is
+  reading-kept views now (Found x taken ∷ h) is = ap (λ (xs : List (Artifact S D P G C)). xs ++ x ∷ []) (reading-kept views now h is)
+  reading-kept views now (p ∷ h) is = absurd is
 
   pub reading-moment : (now : ℕ) (h : History S D P G C) → IsReading now h → latest h ≡ now
   reading-moment now [] is = absurd is

@@ -1,6 +1,6 @@
 -- While a record is gone through, the voter knows each notarization that it has so far.
-use Rattle.std.proofs.Common.{◌≡◌, ◌++◌, ◌∷◌, ◌∙◌, inl, inr, ⊎_elim, ℕ, Bool, true, false, List, [], refl, sym, ap, subst}
-use Rattle.std.specs.Prelude.{◌==◌, Contains, Option, Some, None, IsSome, if◌then◌else◌, is_some, option_map}
+use Rattle.std.proofs.Common.{◌≡◌, ◌++◌, ◌∷◌, ⊎_elim, ℕ, Bool, true, false, List, [], refl, sym, subst}
+use Rattle.std.specs.Prelude.{◌==◌, Contains, Option, Some, None, IsSome, if◌then◌else◌, option_map}
 use Rattle.std.specs.Option.{option_or}
 use Rattle.std.proofs.lemmas.Bool.{eq-eqb}
 use Rattle.std.proofs.lemmas.List.{map-append}
@@ -8,12 +8,12 @@ use Rattle.std.proofs.lemmas.List.Elements.{Contains-append_cases}
 use Rattle.types_quorum.specs.Counting.{Contains-cases, Contains-nil}
 use Rattle.types_core.specs.declared.proposal.Proposal.{Proposal}
 use Rattle.types_core.specs.declared.position.Round.{Round}
-use Rattle.types_core.specs.Subject.{finalize, notarize, nullify}
+use Rattle.types_core.specs.Subject.{notarize}
 use Rattle.messages_certificates.specs.declared.artifact.Artifact.{Artifact}
 use Rattle.messages_certificates.specs.declared.artifact.Artifact.TheVariants as artifact
 use Rattle.messages_certificates.specs.declared.certificate.Certificate.TheVariants as certificate
 use Rattle.messages_certificates.specs.ProposalCertificate.{Notarization}
-use Rattle.simplex_record.specs.Record.{Entry, HasTaken, entries, entry, judged, taken, voted}
+use Rattle.simplex_record.specs.Record.{Entry, HasTaken, entries, entry, taken}
 use Rattle.voter_history.specs.Past as past
 use Rattle.voter_history.specs.Past.{Item}
 use Rattle.voter_history.specs.History as views
@@ -32,7 +32,7 @@ module _ {A B : Type 0} where
   some-mapped (Some x) f some = refl
   some-mapped None f some = absurd (cc some)
 
-  some-of-mapped : (o : Option A) (f : A → B) → IsSome (option_map f o) → IsSome o
+  pub some-of-mapped : (o : Option A) (f : A → B) → IsSome (option_map f o) → IsSome o
   some-of-mapped (Some x) f some = refl
   some-of-mapped None f some = absurd (cc some)
 
@@ -46,7 +46,7 @@ module _ {A : Type 0} where
   none-some (Some x) none some = cc none
   none-some None none some = cc some
 
-  some-or : (o : Option A) (x : A) → IsSome (option_or o (Some x))
+  pub some-or : (o : Option A) (x : A) → IsSome (option_or o (Some x))
   some-or (Some y) x = refl
   some-or None x = refl
 

@@ -9,3 +9,4 @@ mod SaidSo
 mod Free
 mod Knowing
 mod NextFound
+mod Rewritten

@@ -1,5 +1,5 @@
 -- A record that is being gone through: what its next artifact asks of the layers holds.
-use Rattle.std.proofs.Common.{◌≡◌, ◌≢◌, ◌++◌, ◌∷◌, ◌∙◌, ℕ, Bool, true, List, [], refl, sym, ap, subst}
+use Rattle.std.proofs.Common.{◌≡◌, ◌≢◌, ◌++◌, ◌∷◌, ◌∙◌, ℕ, Bool, true, List, [], refl, ap, subst}
 use Rattle.std.specs.Prelude.{IsSome, is_none}
 use Rattle.types_core.specs.declared.position.Round.{Round}
 use Rattle.types_core.specs.declared.scheme.Scheme.{Ghosts}
@@ -12,7 +12,7 @@ use Rattle.messages_certificates.specs.Certificate.{certificate_statement}
 use Rattle.simplex_messages.specs.declared.vote.Vote.{Vote}
 use Rattle.simplex_messages.specs.VoteParts.{vote_artifact, vote_round}
 use Rattle.simplex_record.specs.Lawful.{Fits}
-use Rattle.simplex_record.specs.Record.{Entry, entries, entry}
+use Rattle.simplex_record.specs.Record.{entries, entry}
 use Rattle.simplex_record.specs.Rules.{MayFollow, MayJudge}
 use Rattle.types_terms.specs.declared.elector.Elector as elector
 use Rattle.batcher_verifier.specs.History.{recorded}
@@ -25,10 +25,10 @@ use Rattle.simplex_member.specs.declared.action.Action.{Action}
 use Rattle.simplex_member.specs.Allowed.{Allowed, AreAllowed}
 use Rattle.simplex_member.specs.Layers.{voter_of, votes_of}
 use Rattle.simplex_member.specs.Packet.{Formats}
-use Rattle.simplex_member.specs.Point.{Found, History}
+use Rattle.simplex_member.specs.Point.{Found}
 use Rattle.simplex_member.specs.Recorded.{notarization_in, record_of}
 use Rattle.simplex_member.specs.Refusals.{HasNoneLike}
-use Rattle.simplex_member.specs.Setup.{Setup, owner_of}
+use Rattle.simplex_member.specs.Setup.{owner_of}
 use Rattle.node_core.specs.declared.layers.Layers.{Layers}
 use Rattle.node_core.specs.GoingThrough.{IsRecordOf}
 use Rattle.node_core.specs.Learning.{IsNew, IsUnknown, first_of}

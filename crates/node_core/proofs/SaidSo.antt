@@ -1,5 +1,5 @@
 -- What is so of the vote or the certificate that a recorded artifact says, where the votes of its view take it in.
-use Rattle.std.proofs.Common.{◌≡◌, ◌∙◌, ℕ, true, sym, ap, subst}
+use Rattle.std.proofs.Common.{◌≡◌, ◌∙◌, true, ap, subst}
 use Rattle.std.specs.Prelude.{is_none}
 use Rattle.types_core.specs.declared.position.Round.{Round}
 use Rattle.types_core.specs.declared.scheme.Scheme.{Ghosts}

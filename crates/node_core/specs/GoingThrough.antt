@@ -17,7 +17,7 @@ use Rattle.simplex_member.specs.Layers.{is_begun, repair_of, voter_of}
 use Rattle.simplex_member.specs.Member.{AreOpening, Goes}
 use Rattle.simplex_member.specs.Packet.{Formats}
 use Rattle.simplex_member.specs.Point.{Point, Opened, Found, History}
-use Rattle.simplex_member.specs.Recorded.{record_of}
+use Rattle.simplex_member.specs.Recorded.{kept_of, record_of}
 use Rattle.simplex_member.specs.Setup.{Setup, owner_of}
 use Rattle.node_core.specs.declared.layers.Layers.{Layers}
 
@@ -79,11 +79,12 @@ module _ {S L D P G C : Type 0} (g : Ghosts S D P G C) (e : elector.Ghosts L S D
     pub stand : StandAt layers h
     pub acts : AreActions f actions (deeds_along g f s h)
 
-  -- the record was gone through: the history says all of it
+  -- the record was gone through: the history says all of it, and all of it is kept
   pub record HasBegun (now : ℕ) (found : List (Artifact S D P G C)) (layers : Layers S L D P G C) (actions : List (Action S D P G C)) : Type 0 where
     pub end : History S D P G C
     pub begun : is_begun end ≡ true
     pub allowed : AreAllowed g f s end
     pub whole : record_of end ≡ found
+    pub kept : kept_of s.voter.length end ≡ found
     pub stand : StandAt layers end
     pub opens : Opens g f s now found actions end

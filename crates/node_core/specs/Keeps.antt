@@ -17,7 +17,7 @@ use Rattle.simplex_member.specs.Allowed.{AreAllowed}
 use Rattle.simplex_member.specs.Layers.{finalized_of, is_begun, repair_of, voter_of}
 use Rattle.simplex_member.specs.Packet.{Formats}
 use Rattle.simplex_member.specs.Point.{History}
-use Rattle.simplex_member.specs.Recorded.{record_of}
+use Rattle.simplex_member.specs.Recorded.{kept_of}
 use Rattle.simplex_member.specs.Setup.{Setup, owner_of}
 use Rattle.node_core.specs.SettingUp.{IsSetUp}
 use Rattle.node_core.specs.declared.node_state.Core.{Core}
@@ -32,7 +32,7 @@ disks_of node = ledgers.disks_of node.ledger
 
 module _ {S L D P G C K : Type 0} (g : Ghosts S D P G C) (e : elector.Ghosts L S D P G C) (k : disk.Ghosts K) where
   -- the node stands where this history leads: the record was gone through, each point was allowed, and each layer
-  -- stands where its part of the history leads
+  -- stands where its part of the history leads: on the disks is what is kept since the last rewrite
   pub record CoreKeeps (f : Formats S D P G C) (s : Setup S D C) (node : Core S L D K P G C) (h : History S D P G C) : Type 0 where
     pub begun : is_begun h ≡ true
     pub allowed : AreAllowed g f s h
@@ -40,7 +40,7 @@ module _ {S L D P G C K : Type 0} (g : Ghosts S D P G C) (e : elector.Ghosts L S
     pub voter : voting.Keeps g e s.voter node.voter (voter_of s h)
     pub votes : accepting.Keeps g f.same s node.acceptance h
     pub repair : repairing.Keeps s.voter.length node.repair (repair_of f h)
-    pub ledger : KeepsRecord k f.artifact (owner_of s) node.ledger (record_of h)
+    pub ledger : KeepsRecord k f.artifact (owner_of s) node.ledger (kept_of s.voter.length h)
     pub tables : KeepsTables (finalized_of s h) node.tables h
 
   -- what holds of each history that leads here, however values are compared and spelled

@@ -10,3 +10,4 @@ pub mod GoingThrough
 pub mod Saying
 pub mod SaidRounds
 pub mod Recalling
+pub mod Rewriting

@@ -1,5 +1,5 @@
 -- What is asked of the layers of a node that are told of a recorded artifact.
-use Rattle.std.specs.Prelude.{◌≡◌, ℕ, Bool, true, List, Some, IsSome, is_none}
+use Rattle.std.specs.Prelude.{◌≡◌, ℕ, Bool, true, List, Option, IsSome, is_none}
 use Rattle.types_core.specs.declared.position.Round.{Round}
 use Rattle.types_core.specs.declared.scheme.Scheme.{Ghosts}
 use Rattle.types_core.specs.Positions.{HasRoom}
@@ -72,13 +72,14 @@ module _ {S L D P G C : Type 0} (g : Ghosts S D P G C) (e : elector.Ghosts L S D
     pub record_is : IsRecordOf g s recorded found
     pub gone : IsGoneThrough g e (formats members) s now found rest layers actions
 
-  -- some member's record is at hand, which is opened at this moment, and nothing happened yet to what it keeps above it
-  pub record MayBegin (formats : ℕ → Formats S D P G C) (recorded : Recorded S D P G C) (layers : Layers S L D P G C) (now : ℕ) (genesis : D)
-      : Type 0 where
+  -- some member's record is at hand, which is opened at this moment, on this payload of view 0 where the opening brings it, and nothing
+  -- happened yet to what it keeps above it
+  pub record MayBegin (formats : ℕ → Formats S D P G C) (recorded : Recorded S D P G C) (layers : Layers S L D P G C) (now : ℕ)
+      (genesis : Option D) : Type 0 where
     pub members : ℕ
     pub s : Setup S D C
     pub found : List (Artifact S D P G C)
-    pub genesis_is : Some genesis ≡ s.genesis
+    pub genesis_is : genesis ≡ s.genesis
     pub in_time : IsInTime s now
     pub record_is : IsRecordOf g s recorded found
     pub new : AreNew g e (formats members) s now layers

@@ -1,5 +1,5 @@
 -- What stays the same through an opening of a node.
-use Rattle.std.specs.Prelude.{◌≡◌, ◌<◌, ◌^◌, ℕ, false, Some}
+use Rattle.std.specs.Prelude.{◌≡◌, ◌<◌, ◌^◌, ℕ, Some}
 use Rattle.simplex_member.specs.Doing.{LetsActsEnd}
 use Rattle.simplex_member.specs.Setup.{Setup, longest_timeout, owner_of}
 use Rattle.node_core.specs.declared.settings.Settings.{Settings}
@@ -11,7 +11,7 @@ module _ {S D C : Type 0} where
     pub few : members < 2 ^ 32
     pub acts_end : LetsActsEnd s members
 
-  -- a node is set up so: by the scheme's own member, and it rewrites no record
+  -- a node is set up so: by the scheme's own member
   pub record IsSetUp (s : Setup S D C) (settings : Settings S) : Type 0 where
     pub scheme_is : settings.scheme.value ≡ s.voter.scheme
     pub me_is : s.voter.me ≡ Some s.me
@@ -19,5 +19,4 @@ module _ {S D C : Type 0} where
     pub forward_is : settings.forward ≡ s.forward
     pub silence_is : settings.silence ≡ s.silence
     pub longest_is : settings.longest ≡ longest_timeout s
-    pub never : s.rewrites ≡ false
     pub ends : EndsActs s

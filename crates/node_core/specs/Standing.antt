@@ -27,7 +27,7 @@ use Rattle.simplex_resolver.specs.RepairHistory.{Item}
 use Rattle.node_record.specs.Ledger.{KeepsRecord}
 use Rattle.simplex_member.specs.Layers.{is_begun, may_enter, repair_of, voter_of}
 use Rattle.simplex_member.specs.Point.{Point}
-use Rattle.simplex_member.specs.Recorded.{record_of}
+use Rattle.simplex_member.specs.Recorded.{kept_of}
 use Rattle.simplex_member.specs.Setup.{owner_of}
 use Rattle.std.proofs.Common.{◌≤◌, [], ◌∙◌, ap, arith}
 use Rattle.types_core.specs.Positions.{HasRoom}
@@ -79,7 +79,7 @@ module _ {S L D P G C K : Type 0} {g : Ghosts S D P G C} {e : elector.Ghosts L S
 module _ {S L D P G C K : Type 0} (g : Ghosts S D P G C) (e : elector.Ghosts L S D P G C) (k : disk.Ghosts K) (f : Formats S D P G C) (s : Setup S D C) where
   -- where neither votes nor repair nor record are told of it
   pub stands_behind : (node : Core S L D K P G C) (voter : State S L D P G C) (tables : Tables S D P G C) (h : History S D P G C) (p : Point S D P G C)
-      → QuietStays g f.same → SaysNothing p → may_enter p ≡ false → is_begun (p ∷ h) ≡ true → repair_of f (p ∷ h) ≡ repair_of f h → record_of (p ∷ h) ≡ record_of h
+      → QuietStays g f.same → SaysNothing p → may_enter p ≡ false → is_begun (p ∷ h) ≡ true → repair_of f (p ∷ h) ≡ repair_of f h → kept_of s.voter.length (p ∷ h) ≡ kept_of s.voter.length h
       → CoreKeeps g e k f s node h → Allowed g f s h p → voting.Keeps g e s.voter voter (voter_of s (p ∷ h)) → KeepsTables (finalized_of s (p ∷ h)) tables (p ∷ h)
       → CoreKeeps g e k f s (record node { voter = voter; tables = tables }) (p ∷ h)
   stands_behind node voter tables h p quiet nothing never begun no_repair no_record keeps may voter_keeps tables_keep = record {

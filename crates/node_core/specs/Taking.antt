@@ -6,7 +6,7 @@ use Rattle.journal_single.specs.declared.disk.Disk as disk
 use Rattle.simplex_member.specs.declared.action.Action.{Action}
 use Rattle.simplex_member.specs.Allowed.{Allowed}
 use Rattle.simplex_member.specs.Deeds.{Deed, AreActions, deeds_of}
-use Rattle.simplex_member.specs.Member.{ReadsAs}
+use Rattle.simplex_member.specs.Member.{ReadsAsKept}
 use Rattle.simplex_member.specs.Packet.{Formats}
 use Rattle.simplex_member.specs.Point.{Point, History}
 use Rattle.simplex_member.specs.Setup.{Setup}
@@ -22,4 +22,4 @@ module _ {S L D P G C K : Type 0} (g : Ghosts S D P G C) (e : elector.Ghosts L S
 module _ {S D P G C : Type 0} (g : Ghosts S D P G C) (f : Formats S D P G C) (s : Setup S D C) where
   -- what is read is what taking a point may leave: the record before it, or the one behind it
   abbrev pub IsLeftBy : History S D P G C → Point S D P G C → List (List ℕ) → Type 0
-  IsLeftBy h p read = ReadsAs g f s read h ⊎ (Allowed g f s h p × ReadsAs g f s read (p ∷ h))
+  IsLeftBy h p read = ReadsAsKept g f s read h ⊎ (Allowed g f s h p × ReadsAsKept g f s read (p ∷ h))

@@ -1,6 +1,6 @@
 //! What a node keeps above its record, and how it goes through the record when it is opened.
 
-ghost use Rattle.std.specs.Prelude.{◌≡◌, ◌∷◌, ◌++◌, [], ℕ, List, Some, IfOk, OnOk, map};
+ghost use Rattle.std.specs.Prelude.{◌≡◌, ◌∷◌, ◌++◌, [], ℕ, List, IfOk, OnOk, map};
 ghost use Rattle.messages_certificates.specs.declared.artifact.Artifact.{Artifact};
 ghost use Rattle.simplex_member.specs.declared.action.Action.{Action};
 ghost use Rattle.simplex_member.specs.Deeds.{AreActions, Reports};
@@ -11,7 +11,7 @@ ghost use Rattle.node_core.specs.SettingUp.{IsSetUp};
 ghost use Rattle.node_core.specs.GoingThrough.{AreNew, HasBegun, IsGoneThrough, IsRecordOf, StandAt, deeds_along};
 ghost use Rattle.node_core.specs.Recalling.{GoesThrough, IsReady, MayBegin};
 
-use crate::recalling::{finalize, report, tell_repair, tell_voter};
+use crate::recalling::{finalize, genesis_of, report, start_voter, tell_repair, tell_voter};
 use crate::settings::Settings;
 use crate::telling::tell_votes;
 use crate::told_layers::{own_votes_come_free, what_is_not_recorded_is_unknown};
@@ -26,6 +26,7 @@ use std::alloc::{AllocError, Global};
 use types_core::{Digest, Scheme};
 use types_terms::Elector;
 use voter_laws::what_is_known_stays;
+use voter_rules::Floor;
 use voter_rules::config::Config;
 
 /// What a node keeps above its record: what it knows, which votes it accepted, what it can serve, and what it asked for.
@@ -45,7 +46,7 @@ impl<S: Scheme<D> + Drop, L: Elector<S, D>, D: Digest> Layers<S, L, D> {
     /// `AllocError` where memory ran out.
     pub fn begin(
         settings: &Settings<S>,
-        config: &Config<D>,
+        config: &Config<Floor<S, D>>,
         elector: L,
         now: u64,
         recorded: &Recorded<S, D>,
@@ -61,7 +62,7 @@ impl<S: Scheme<D> + Drop, L: Elector<S, D>, D: Digest> Layers<S, L, D> {
             → HasBegun S.Scheme L.Elector (⟦<S as Speaks<D>>⟧.formats n) s now found r.0 r.1.items) }
     {
         let mut layers = Layers::set_up(settings, config, elector, now)?;
-        match layers.replay(settings.alloc, now, config.floor, recorded) {
+        match layers.replay(settings.alloc, now, genesis_of(&config.floor), recorded) {
             Ok(out) => Ok((layers, out)),
             Err(error) => Err(error),
         }
@@ -70,7 +71,7 @@ impl<S: Scheme<D> + Drop, L: Elector<S, D>, D: Digest> Layers<S, L, D> {
     /// What a node keeps that is opened at this moment, before anything happened to it.
     fn set_up(
         settings: &Settings<S>,
-        config: &Config<D>,
+        config: &Config<Floor<S, D>>,
         elector: L,
         now: u64,
     ) -> Result<Self, AllocError>
@@ -101,18 +102,19 @@ impl<S: Scheme<D> + Drop, L: Elector<S, D>, D: Digest> Layers<S, L, D> {
         })
     }
 
-    /// Starts the voter, goes through the whole record, and ends that: with what it hands out.
+    /// Starts the voter, on the payload of view 0 where that is known, goes through the whole record, and ends that: with what it hands
+    /// out.
     fn replay(
         &mut self,
         alloc: Global,
         now: u64,
-        genesis: D,
+        genesis: Option<D>,
         recorded: &Recorded<S, D>,
     ) -> Result<Vec<Action<S, D>>, AllocError>
         requires { MayBegin S.Scheme L.Elector ⟦<S as Speaks<D>>⟧.formats recorded.now self.old now genesis }
         ensures { IfOk result (λ out.
             (n : ℕ) (s : Setup S D S.Certificate) (found : List (Artifact S D S.PublicKey S.Signature S.Certificate))
-            → Some genesis ≡ s.genesis
+            → genesis ≡ s.genesis
             → IsInTime s now
             → IsRecordOf S.Scheme s recorded.now found
             → AreNew S.Scheme L.Elector (⟦<S as Speaks<D>>⟧.formats n) s now self.old
@@ -126,15 +128,15 @@ impl<S: Scheme<D> + Drop, L: Elector<S, D>, D: Digest> Layers<S, L, D> {
         Ok(out)
     }
 
-    /// Starts the voter at this moment, and enters its first view.
-    fn start(&mut self, now: u64, genesis: D) -> Result<(), AllocError>
+    /// Starts the voter at this moment, on the payload of view 0 where that is known, and enters its first view.
+    fn start(&mut self, now: u64, genesis: Option<D>) -> Result<(), AllocError>
         ensures { OnOk result ((n : ℕ) (s : Setup S D S.Certificate)
-            → Some genesis ≡ s.genesis
+            → genesis ≡ s.genesis
             → AreNew S.Scheme L.Elector (⟦<S as Speaks<D>>⟧.formats n) s now self.old
             → StandAt S.Scheme L.Elector (⟦<S as Speaks<D>>⟧.formats n) s self.new (Opened now ∷ [])) }
     {
         silent_points_leave_votes::<S, D>();
-        self.voter.set_genesis(now, genesis)?;
+        start_voter(&mut self.voter, now, genesis)?;
         let current = self.voter.current_view();
         let floor = self.voter.views().min_active();
         self.acceptance.enter(current, floor)

@@ -10,6 +10,7 @@ mod handing;
 mod layers;
 mod node_state;
 mod recalling;
+mod rewriting;
 mod saying;
 mod settings;
 mod telling;
@@ -22,5 +23,6 @@ pub use layers::Layers;
 pub use node_state::Core;
 pub use settings::Settings;
 pub use told_layers::{
-    give, judge_repair, own_votes_come_free, update_repair, what_is_not_recorded_is_unknown,
+    give, judge_repair, knows_like, own_votes_come_free, update_repair,
+    what_is_not_recorded_is_unknown, what_is_unknown_is_not_recorded,
 };

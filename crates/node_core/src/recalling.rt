@@ -1,4 +1,4 @@
-//! What each layer of a node is told of an artifact that the record has.
+//! What a node's layers begin with, and what each is told of an artifact that the record has.
 
 ghost use Rattle.std.specs.Prelude.{◌≡◌, ◌++◌, ◌∷◌, ℕ, Bool, List, None, Some, IfOk, OnOk, map, option_map, option_to_list, if◌then◌else◌};
 ghost use Rattle.types_core.specs.Positions.{HasRoom};
@@ -8,7 +8,7 @@ ghost use Rattle.messages_certificates.specs.Artifact.{artifact_round};
 ghost use Rattle.messages_certificates.specs.Certificate.{any_certificate_spelling, as_notarization};
 ghost use Rattle.simplex_messages.specs.declared.activity.Activity.TheVariants as activity;
 ghost use Rattle.simplex_record.specs.declared.owner.Owner.{Owner};
-ghost use Rattle.voter_history.specs.History.{seen};
+ghost use Rattle.voter_history.specs.History.{seen, started};
 ghost use Rattle.voter_rounds.specs.Rounds.{Takes};
 ghost use Rattle.simplex_state.specs.State as voting;
 ghost use Rattle.simplex_resolver.specs.RepairHistory.{Judged};
@@ -20,7 +20,7 @@ ghost use Rattle.simplex_member.specs.Layers.{finds, repair_found, repair_of};
 ghost use Rattle.simplex_member.specs.Packet.{Formats};
 ghost use Rattle.simplex_member.specs.Point.{History};
 ghost use Rattle.simplex_member.specs.Recorded.{finalization_in, notarization_in, record_of, reported};
-ghost use Rattle.simplex_member.specs.Setup.{Setup};
+ghost use Rattle.simplex_member.specs.Setup.{Setup, genesis_of};
 ghost use Rattle.node_core.specs.GoingThrough.{IsRecordOf};
 ghost use Rattle.node_core.specs.Learning.{IsNew};
 ghost use Rattle.node_core.specs.Recalling.{CanLearn, HasNotarization, IsOnRecorded};
@@ -37,6 +37,36 @@ use simplex_state::State as Voter;
 use std::alloc::{AllocError, Global};
 use types_core::{Digest, Duplicate, Scheme, View};
 use types_terms::Elector;
+use voter_rules::Floor;
+
+/// The payload of view 0, where that is what a node starts from. Behind a finalization that it starts from none is known.
+pub(crate) fn genesis_of<S: Scheme<D>, D: Digest>(floor: &Floor<S, D>) -> Option<D>
+    ensures { result ≡ genesis_of floor.now }
+{
+    match floor {
+        Floor::Genesis(payload) => Some(*payload),
+        Floor::Finalized(_) => None,
+    }
+}
+
+/// Starts the voter at this moment, on the payload of view 0 where that is known.
+///
+/// # Errors
+///
+/// `AllocError` where memory ran out.
+pub(crate) fn start_voter<S: Scheme<D> + Drop, L: Elector<S, D>, D: Digest>(
+    voter: &mut Voter<S, L, D>,
+    now: u64,
+    genesis: Option<D>,
+) -> Result<(), AllocError>
+    ensures { OnOk result
+        (voting.AtEach S.Scheme L.Elector voter.old (λ s h. voting.Keeps S.Scheme L.Elector s voter.new (started now genesis ∷ h))) }
+{
+    match genesis {
+        Some(payload) => voter.set_genesis(now, payload),
+        None => voter.begin(now),
+    }
+}
 
 /// Tells the voter of an artifact of a view with room, which is new to it where it is a certificate, and on what it knows where it is a
 /// verdict.

@@ -1,11 +1,12 @@
 //! What voter and repair learn of a certificate or a verdict.
 
-ghost use Rattle.std.specs.Prelude.{◌≡◌, ◌≢◌, ◌∷◌, [], Bool, true, None, IfErr, OnOk, is_none};
+ghost use Rattle.std.specs.Prelude.{◌≡◌, ◌≢◌, ◌∷◌, [], Bool, true, false, None, IfErr, OnOk, is_none};
 ghost use Rattle.types_core.specs.Positions.{HasRoom};
 ghost use Rattle.messages_certificates.specs.Certificate.{any_certificate_spelling, as_notarization, certificate_round, certificate_statement};
 ghost use Rattle.messages_certificates.specs.declared.certificate.Certificate.{Certificate};
 ghost use Rattle.simplex_messages.specs.declared.vote.Vote.{Vote};
 ghost use Rattle.simplex_messages.specs.VoteParts.{vote_artifact, vote_round};
+ghost use Rattle.types_terms.specs.Windows.{Retains};
 ghost use Rattle.batcher_verifier.specs.History.{recorded};
 ghost use Rattle.voter_history.specs.History.{notarized, nullified, finalized, nullification, seen};
 ghost use Rattle.voter_history.specs.Past as past;
@@ -15,7 +16,7 @@ ghost use Rattle.simplex_resolver.specs.RepairHistory.{Judged, item_of};
 ghost use Rattle.simplex_member.specs.declared.fault.NodeFault.TheVariants as step_fault;
 ghost use Rattle.simplex_member.specs.Allowed.{AreAllowed};
 ghost use Rattle.simplex_member.specs.Laws.{IsExact};
-ghost use Rattle.simplex_member.specs.Layers.{given, voter_of, votes_of};
+ghost use Rattle.simplex_member.specs.Layers.{finalized_of, given, voter_of, votes_of};
 ghost use Rattle.simplex_member.specs.Packet.{Formats};
 ghost use Rattle.simplex_member.specs.Point.{Found, History, Votes};
 ghost use Rattle.simplex_member.specs.Refusals.{HasNoneLike};
@@ -39,6 +40,22 @@ pub fn what_is_not_recorded_is_unknown<S: Scheme<D>, D: Digest>()
         → h ≢ []
         → HasNoneLike S.Scheme f s h (certificate_statement c)
         → IsUnknown s.voter (voter_of s h) c }
+{
+    voters_are_orderly::<S, D>();
+    voters_tell_the_record::<S, D>();
+    what_is_known_is_recorded::<S, D>();
+    what_is_recorded_is_known::<S, D>();
+}
+
+/// Where the voter knows no certificate of a kind and a view that it keeps, none is recorded.
+pub fn what_is_unknown_is_not_recorded<S: Scheme<D>, D: Digest>()
+    ensures { (f : Formats S D S.PublicKey S.Signature S.Certificate) (s : Setup S D S.Certificate)
+        (h : History S D S.PublicKey S.Signature S.Certificate) (c : Certificate S D S.PublicKey S.Signature S.Certificate)
+        → AreAllowed S.Scheme f s h
+        → h ≢ []
+        → Retains (finalized_of s h) s.voter.retention (certificate_round c).view
+        → IsUnknown s.voter (voter_of s h) c
+        → HasNoneLike S.Scheme f s h (certificate_statement c) }
 {
     voters_are_orderly::<S, D>();
     voters_tell_the_record::<S, D>();
@@ -137,6 +154,32 @@ pub fn give<S: Scheme<D> + Drop, L: Elector<S, D>, D: Digest>(
         }
         Certificate::Finalization(finalization) => {
             give_finalization(alloc, now, finalization, voter)
+        }
+    }
+}
+
+/// Whether the voter knows a certificate of this one's kind and view.
+pub fn knows_like<S: Scheme<D> + Drop, L: Elector<S, D>, D: Digest>(
+    voter: &Voter<S, L, D>,
+    certificate: &Certificate<S, D>,
+) -> bool
+    ensures known { result ≡ true → voting.AtEach S.Scheme L.Elector voter.now (λ s h. ¬ IsUnknown s h certificate.now) }
+    ensures unknown { result ≡ false → voting.AtEach S.Scheme L.Elector voter.now (λ s h. IsUnknown s h certificate.now) }
+{
+    let views = voter.views();
+    match certificate {
+        Certificate::Notarization(notarization) => {
+            views
+                .notarization(notarization.proposal.round.view)
+                .is_some()
+        }
+        Certificate::Nullification(nullification) => {
+            views.nullification(nullification.round.view).is_some()
+        }
+        Certificate::Finalization(finalization) => {
+            views
+                .finalization(finalization.proposal.round.view)
+                .is_some()
         }
     }
 }

@@ -56,12 +56,13 @@ use Rattle.simplex_member.specs.declared.fault.NodeFault.{NodeFault}
 use Rattle.simplex_member.specs.declared.fault.NodeFault.TheVariants as step_fault
 use Rattle.simplex_member.specs.Allowed.{Allowed, AreAllowed, RetryIsKnown, VoteIsDue}
 use Rattle.simplex_member.specs.Deeds.{Deed, Reports, Sends, all_deeds, deeds_of}
-use Rattle.simplex_member.specs.Laws.{DueMayBeRecorded, KnownNullifiesAreRecorded, RecordsStayLawful}
+use Rattle.simplex_member.specs.Floors.{IsOfViews, TellsAll}
+use Rattle.simplex_member.specs.Laws.{DueMayBeRecorded, KnownNullifiesAreRecorded}
 use Rattle.simplex_member.specs.Layers.{casts, current_of, finalized_of, floor_of, is_begun, known_of, latest, voter_of}
 use Rattle.simplex_member.specs.Member.{Goes}
 use Rattle.simplex_member.specs.Packet.{Formats, IsRecordable, of_vote}
 use Rattle.simplex_member.specs.Point.{AreActs, History, Polls, Point, Repeats, Votes, is_act}
-use Rattle.simplex_member.specs.Recorded.{record_of, reported}
+use Rattle.simplex_member.specs.Recorded.{kept_of, record_of, reported}
 use Rattle.simplex_member.specs.Setup.{Setup, member_of, owner_of}
 use Rattle.node_outbox.specs.Handing.{AddsDeeds, hands_as, nothing_more}
 use Rattle.node_requests.specs.declared.acted.Acted.{Acted}
@@ -100,8 +101,8 @@ module _ {S D P G C : Type 0} (g : Ghosts S D P G C) (f : Formats S D P G C) (s 
     left_by_act h p old new own leaves = book_weaker k (IsLeftBy g f s h p) (IsLeftByActs g f s h) (λ read left. left_act h p read own left) old new leaves
 
     -- so is the record
-    pub left_by_none : (h : History S D P G C) (old new : Books (Artifact S D P G C) K) → LeaveBook k old new (λ read. read ≡ map f.artifact (record_of h)) → LeaveBook k old new (IsLeftByActs g f s h)
-    left_by_none h old new leaves = book_weaker k (λ read. read ≡ map f.artifact (record_of h)) (IsLeftByActs g f s h) (λ read is. ([], h, none_acted, refl, is)) old new leaves
+    pub left_by_none : (h : History S D P G C) (old new : Books (Artifact S D P G C) K) → LeaveBook k old new (λ read. read ≡ map f.artifact (kept_of s.voter.length h)) → LeaveBook k old new (IsLeftByActs g f s h)
+    left_by_none h old new leaves = book_weaker k (λ read. read ≡ map f.artifact (kept_of s.voter.length h)) (IsLeftByActs g f s h) (λ read is. ([], h, none_acted, refl, is)) old new leaves
 
     -- what acts behind a point of the node's own leave is what its acts leave
     pub left_behind : (h : History S D P G C) (p : Point S D P G C) (old new : Books (Artifact S D P G C) K) → is_act p ≡ true → Allowed g f s h p → LeaveBook k old new (IsLeftByActs g f s (p ∷ h)) → LeaveBook k old new (IsLeftByActs g f s h)
@@ -149,7 +150,7 @@ module _ {S L D P G C K : Type 0} (g : Ghosts S D P G C) (e : elector.Ghosts L S
 
     -- nothing was left to be done
     pub did_nothing : (old new : Core S L D K P G C) (h : History S D P G C) (actions : List (Action S D P G C)) → CoreKeeps g e k f s new h → Done h
-        → (k.keeps → LeaveBook k (book_of old) (book_of new) (λ read. read ≡ map f.artifact (record_of h)))
+        → (k.keeps → LeaveBook k (book_of old) (book_of new) (λ read. read ≡ map f.artifact (kept_of s.voter.length h)))
         → WasTried g e k f s is_kind Done old new h actions actions (Ok came.Nothing)
     did_nothing old new h actions keeps none leaves = record {
       ok = record { points = []; end = h; are_kind = All-nil (λ (q : Point S D P G C). is_kind q ≡ true); acted = nothing_acted new h actions keeps; none = none };
@@ -158,7 +159,7 @@ module _ {S L D P G C K : Type 0} (g : Ghosts S D P G C) (e : elector.Ghosts L S
 
     -- it failed before anything was asked of the disk
     pub did_fail : (old new : Core S L D K P G C) (h : History S D P G C) (before after : List (Action S D P G C)) (why : NodeFault)
-        → (k.keeps → LeaveBook k (book_of old) (book_of new) (λ read. read ≡ map f.artifact (record_of h)))
+        → (k.keeps → LeaveBook k (book_of old) (book_of new) (λ read. read ≡ map f.artifact (kept_of s.voter.length h)))
         → WasTried g e k f s is_kind Done old new h before after (Err why)
     did_fail old new h before after why leaves = record { ok = tt; any_moment = λ it. left_by_none g f s k h (book_of old) (book_of new) (leaves it) }
 
@@ -178,7 +179,7 @@ module _ {S L D P G C K : Type 0} (g : Ghosts S D P G C) (e : elector.Ghosts L S
 
     -- nothing was left to be done behind a point of the kind that hands out nothing
     pub nothing_behind : (old new : Core S L D K P G C) (h : History S D P G C) (p : Point S D P G C) (actions : List (Action S D P G C)) → is_act p ≡ true → deeds_of g f s h p ≡ [] → is_kind p ≡ true
-        → CoreKeeps g e k f s new (p ∷ h) → Done (p ∷ h) → (k.keeps → LeaveBook k (book_of old) (book_of new) (λ read. read ≡ map f.artifact (record_of h)))
+        → CoreKeeps g e k f s new (p ∷ h) → Done (p ∷ h) → (k.keeps → LeaveBook k (book_of old) (book_of new) (λ read. read ≡ map f.artifact (kept_of s.voter.length h)))
         → WasTried g e k f s is_kind Done old new h actions actions (Ok came.Nothing)
     nothing_behind old new h p actions own silent kind keeps none leaves = record {
       ok = record {
@@ -304,11 +305,6 @@ finalized_behind s (judged now view true ∷ h) = let before = finalized_behind 
 finalized_behind s (judged now view false ∷ h) = finalized_behind s h
 finalized_behind s (x ∷ h) = finalized_behind s h
 
--- nothing stands in an empty list
-split_nothing : {A : Type 0} (before after : List A) (x : A) → ◌≡◌ {A = List A} [] (before ++ x ∷ after) → ⊥
-split_nothing [] after x is = cc is
-split_nothing (y ∷ before) after x is = cc is
-
 vote_within : {S D P G C : Type 0} (W : C → Type 0) (v : Vote S D P G C) → artifact_within W (vote_artifact v)
 unfolding artifact_within
 vote_within W (vote.Notarize v) = tt
@@ -329,10 +325,6 @@ module _ {S D P G C : Type 0} (g : Ghosts S D P G C) (f : Formats S D P G C) (s 
   pub gone_to : (h : History S D P G C) → AreAllowed g f s h → (points : List (Point S D P G C)) × Goes g f s [] points h
   gone_to [] all = ([], refl)
   gone_to (p ∷ h) all = let before = gone_to h all.1 in (before.0 ++ p ∷ [], goes_on [] h before.0 p before.1 all.0)
-
-  -- their record is lawful
-  pub is_lawful : RecordsStayLawful g f s → (h : History S D P G C) → AreAllowed g f s h → IsLawful (g.attests s.voter.scheme) (g.certifies s.voter.scheme) (owner_of s) (record_of h)
-  is_lawful stay h all = let gone = gone_to h all in stay [] h gone.0 gone.1 (λ before after x is. absurd (split_nothing before after x is))
 
   module _ (h : History S D P G C) (begun : is_begun h ≡ true) (me : s.voter.me ≡ Some s.me) where
     own_vote : (x : Statement D) (a : Attestation G) (view : ℕ) → statement_round x ≡ record { epoch = s.voter.epoch; view = view } → s.voter.me ≡ Some a.signer → g.attests s.voter.scheme a.signer x a.signature
@@ -421,7 +413,7 @@ module _ {S L D P G C K : Type 0} (g : Ghosts S D P G C) (e : elector.Ghosts L S
   -- once the record has a vote and the votes of its view know of it, the node stands behind it
   pub behind_cast : (node : Core S L D K P G C) (acceptance : Acceptance S D P G C) (ledger : Ledger S D K P G C) (h : History S D P G C) (v : Vote S D P G C) (x : Artifact S D P G C)
       → x ≡ vote_artifact v → VoterIsAhead g e k f s node h (Votes v) → Allowed g f s h (Votes v) → accepting.Keeps g f.same s acceptance (Votes v ∷ h)
-      → KeepsRecord k f.artifact (owner_of s) ledger (record_of h ++ x ∷ []) → KeepsTables (finalized_of s h) node.tables (Votes v ∷ h)
+      → KeepsRecord k f.artifact (owner_of s) ledger (kept_of s.voter.length h ++ x ∷ []) → KeepsTables (finalized_of s h) node.tables (Votes v ∷ h)
       → CoreKeeps g e k f s (record node { acceptance = acceptance; ledger = ledger }) (Votes v ∷ h)
   behind_cast node acceptance ledger h v x is ahead may votes recorded tables = record {
     begun = ahead.keeps.begun;
@@ -430,7 +422,7 @@ module _ {S L D P G C K : Type 0} (g : Ghosts S D P G C) (e : elector.Ghosts L S
     voter = ahead.ahead;
     votes = votes;
     repair = ahead.keeps.repair;
-    ledger = subst (λ (a : Artifact S D P G C). KeepsRecord k f.artifact (owner_of s) ledger (record_of h ++ a ∷ [])) is recorded;
+    ledger = subst (λ (a : Artifact S D P G C). KeepsRecord k f.artifact (owner_of s) ledger (kept_of s.voter.length h ++ a ∷ [])) is recorded;
     tables = subst (λ (low : ℕ). KeepsTables low node.tables (Votes v ∷ h)) (sym (cast_finalizes_nothing v (voter_of s h))) tables;
   }
 
@@ -458,7 +450,7 @@ module _ {S L D P G C K : Type 0} (g : Ghosts S D P G C) (e : elector.Ghosts L S
 
   -- nothing was left to be done behind it
   pub nothing_after_poll : (Done : History S D P G C → Type 0) (old new : Core S L D K P G C) (h : History S D P G C) (actions : List (Action S D P G C)) → CoreKeeps g e k f s new (after_poll s h) → Done (after_poll s h)
-      → (k.keeps → LeaveBook k (book_of old) (book_of new) (λ read. read ≡ map f.artifact (record_of h))) → WasTried g e k f s is_poll Done old new h actions actions (Ok came.Nothing)
+      → (k.keeps → LeaveBook k (book_of old) (book_of new) (λ read. read ≡ map f.artifact (kept_of s.voter.length h))) → WasTried g e k f s is_poll Done old new h actions actions (Ok came.Nothing)
   nothing_after_poll Done old new h actions keeps none leaves = after_poll_by g f s h (λ (at : History S D P G C). CoreKeeps g e k f s new at → Done at → WasTried g e k f s is_poll Done old new h actions actions (Ok came.Nothing))
       (λ lacks stands nothing. nothing_behind g e k f s is_poll Done old new h Polls actions refl refl refl stands nothing leaves)
       (λ known stands nothing. did_nothing g e k f s is_poll Done old new h actions stands nothing leaves)
@@ -508,18 +500,24 @@ module _ {S D P G C : Type 0} (g : Ghosts S D P G C) (f : Formats S D P G C) (s 
     retry_known = retry_known;
   }
 
+  -- an own nullify of the current view that the voter knows is recorded, and kept
+  pub nullify_kept : AreAllowed g f s h → TellsAll g f s h → IsOfViews g f s h → (v : Nullify S D P G C) → v.round.view ≡ current_of s h → Contains (record_of h) (artifact.Nullify v) → Contains (kept_of s.voter.length h) (artifact.Nullify v)
+  nullify_kept all tells views v at there =
+      let ahead = views.ahead in
+      tells.above (artifact.Nullify v) there (omega (arith, ahead, at))
+
   -- the recorded nullify of the current view may be said once more: it is the last one
   pub repeat_allowed : (w : Nullify S D P G C) (best : Option (Certificate S D P G C)) (view : ℕ) → is_begun h ≡ true → AreAllowed g f s h
-      → KnownNullifiesAreRecorded g f s → RecordsStayLawful g f s
-      → ((v : Nullify S D P G C) → IsLawful (g.attests s.voter.scheme) (g.certifies s.voter.scheme) (owner_of s) (record_of h) → Contains (record_of h) (artifact.Nullify v)
-      → v.round.view ≡ current_view s.voter.length (entries (record_of h)) → IsLastNullifyOf (record_of h) w → w ≡ v)
-      → current_of s h ≡ current_view s.voter.length (entries (record_of h)) → IsLastNullifyOf (record_of h) w
+      → KnownNullifiesAreRecorded g f s → IsLawful (g.attests s.voter.scheme) (g.certifies s.voter.scheme) (owner_of s) (kept_of s.voter.length h) → TellsAll g f s h → IsOfViews g f s h
+      → ((v : Nullify S D P G C) → IsLawful (g.attests s.voter.scheme) (g.certifies s.voter.scheme) (owner_of s) (kept_of s.voter.length h) → Contains (kept_of s.voter.length h) (artifact.Nullify v)
+      → v.round.view ≡ current_view s.voter.length (entries (kept_of s.voter.length h)) → IsLastNullifyOf (kept_of s.voter.length h) w → w ≡ v)
+      → IsLastNullifyOf (kept_of s.voter.length h) w
       → view ≡ current_of s h → NullifyIsDue s.voter (voter_of s h) (latest h) → past.has_nullified (seen s.voter (voter_of s h) view) ≡ true → best ≡ best_certificate s.voter (voter_of s h)
       → Allowed g f s h (Repeats w best) × (w.round.view ≡ view)
-  repeat_allowed w best view begun all known stay is_last now last at due given_up best_is =
+  repeat_allowed w best view begun all known lawful tells views is_last last at due given_up best_is =
       let has = known h view all given_up in
       let its : has.nullify.round.view ≡ view = ap (λ (r : Round). r.view) has.round_is in
-      let same : w ≡ has.nullify = is_last has.nullify (is_lawful g f s stay h all) has.recorded (its ∙ at ∙ now) last in
+      let same : w ≡ has.nullify = is_last has.nullify lawful (nullify_kept all tells views has.nullify (its ∙ at) has.recorded) (its ∙ at ∙ views.current) last in
       let here : w.round.view ≡ view = ap (λ (x : Nullify S D P G C). x.round.view) same ∙ its in (
         record {
           order = begun;

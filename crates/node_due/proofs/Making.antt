@@ -38,13 +38,14 @@ use Rattle.node_record.specs.Ledger.{KeepsRecord}
 use Rattle.node_record.specs.Tables.{KeepsTables}
 use Rattle.simplex_member.specs.declared.action.Action.{Action}
 use Rattle.simplex_member.specs.declared.fault.NodeFault.{NodeFault}
-use Rattle.simplex_member.specs.Allowed.{Allowed, MayRecord}
+use Rattle.simplex_member.specs.Allowed.{Allowed, AreAllowed, MayRecord}
+use Rattle.simplex_member.specs.Floors.{NextFitsKept}
 use Rattle.simplex_member.specs.Deeds.{Blocks, certificate_deeds, deeds_of}
 use Rattle.simplex_member.specs.Laws.{IsExact, MadeIsAllowed}
 use Rattle.simplex_member.specs.Layers.{finalized_of, latest, may_enter, repair_of, takes_certificate, voter_of, votes_of, votes_setup, Stage, IsUp}
 use Rattle.simplex_member.specs.Packet.{Formats, IsRecordable}
 use Rattle.simplex_member.specs.Point.{History, Point, Constructs, Forwards, is_act}
-use Rattle.simplex_member.specs.Recorded.{added_by, record_of}
+use Rattle.simplex_member.specs.Recorded.{added_by, kept_of, record_of}
 use Rattle.simplex_member.specs.Refusals.{HasNoneLike}
 use Rattle.simplex_member.specs.Setup.{Setup, owner_of}
 use Rattle.node_core.specs.Learning.{IsUnknown, first_of}
@@ -79,9 +80,15 @@ module _ {S D P G C : Type 0} (g : Ghosts S D P G C) (f : Formats S D P G C) (s 
       let fits : MayRecord g f s h (certificate_artifact x) = subst (λ (o : Option (Certificate S D P G C)). IfSome (option_map certificate_artifact o) (MayRecord g f s h)) is may.fits in
       fits.follows
 
+  -- behind what is kept too
+  pub made_fits_kept : NextFitsKept g f s → AreAllowed g f s h → (view : ℕ) (kind : Kind) (batch : Batch (Certificate S D P G C)) (x : Certificate S D P G C) → batch.certificate ≡ Some x → Allowed g f s h (Constructs view kind batch)
+      → MayFollow s.voter.length (entries (kept_of s.voter.length h)) (entry (certificate_artifact x))
+  made_fits_kept law all view kind batch x is may =
+      (law h (Constructs view kind batch) (certificate_artifact x) (may, all) (ap (λ (o : Option (Certificate S D P G C)). option_map certificate_artifact o) is)).follows
+
   -- where a crash leaves the record with it or without it, it leaves what taking the construction may leave
   pub left_by_made : {K : Type 0} (k : disk.Ghosts K) (view : ℕ) (kind : Kind) (batch : Batch (Certificate S D P G C)) (x : Certificate S D P G C) (artifact : Artifact S D P G C) (old new : Books (Artifact S D P G C) K) → batch.certificate ≡ Some x → artifact ≡ certificate_artifact x
-      → Allowed g f s h (Constructs view kind batch) → LeaveBook k old new (IsWithOrWithout (map f.artifact (record_of h)) (f.artifact artifact)) → LeaveBook k old new (IsLeftBy g f s h (Constructs view kind batch))
+      → Allowed g f s h (Constructs view kind batch) → LeaveBook k old new (IsWithOrWithout (map f.artifact (kept_of s.voter.length h)) (f.artifact artifact)) → LeaveBook k old new (IsLeftBy g f s h (Constructs view kind batch))
   left_by_made k view kind batch x artifact old new is copy may leaves =
       let recorded : option_map certificate_artifact batch.certificate ≡ Some artifact = ap (λ (o : Option (Certificate S D P G C)). option_map certificate_artifact o) is ∙ ap Some (sym copy) in
       left_by g f s k h (Constructs view kind batch) artifact old new recorded may leaves
@@ -131,28 +138,28 @@ module _ {S L D P G C K : Type 0} (g : Ghosts S D P G C) (e : elector.Ghosts L S
     pub record HaveLearned (voter : State S L D P G C) (repair : resolving.State) (ledger : Ledger S D K P G C) (tables : Tables S D P G C) : Type 0 where
       pub told : voting.Keeps g e s.voter voter (takes_certificate (latest h) (finalized_of s h) x ++ voter_of s h)
       pub repaired : repairing.Keeps s.voter.length repair (item_of f.certificate x ∷ repair_of f h)
-      pub recorded : KeepsRecord k f.artifact (owner_of s) ledger (record_of h ++ certificate_artifact x ∷ [])
+      pub recorded : KeepsRecord k f.artifact (owner_of s) ledger (kept_of s.voter.length h ++ certificate_artifact x ∷ [])
       pub forgot : KeepsTables (last_finalized (takes_certificate (latest h) (finalized_of s h) x ++ voter_of s h)) tables h
 
     -- each by its own word, where the certificate may be recorded
     pub have_learned : (voter : State S L D P G C) (repair : resolving.State) (ledger : Ledger S D K P G C) (tables : Tables S D P G C) (artifact : Artifact S D P G C) (now final : ℕ)
-        → MayFollow s.voter.length (entries (record_of h)) (entry (certificate_artifact x)) → artifact ≡ certificate_artifact x → now ≡ latest h
+        → MayFollow s.voter.length (entries (record_of h)) (entry (certificate_artifact x)) → MayFollow s.voter.length (entries (kept_of s.voter.length h)) (entry (certificate_artifact x)) → artifact ≡ certificate_artifact x → now ≡ latest h
         → (HasNoneLike g f s h (certificate_statement x) → IsUnknown s.voter (voter_of s h) x)
         → (HasRoom s.voter.length (certificate_round x).view → IsUnknown s.voter (voter_of s h) x → voting.Keeps g e s.voter voter (takes_certificate now (finalized_of s h) x ++ voter_of s h))
         → (HasRoom s.voter.length (certificate_round x).view → repairing.Keeps s.voter.length repair (item_of f.certificate x ∷ repair_of f h))
-        → (MayFollow s.voter.length (entries (record_of h)) (entry artifact) → KeepsRecord k f.artifact (owner_of s) ledger (record_of h ++ artifact ∷ []))
+        → (MayFollow s.voter.length (entries (kept_of s.voter.length h)) (entry artifact) → KeepsRecord k f.artifact (owner_of s) ledger (kept_of s.voter.length h ++ artifact ∷ []))
         → ((v : List (views.Point S D P G C)) → voting.Keeps g e s.voter voter v → final ≡ last_finalized v)
         → (finalized_of s h ≤ final → KeepsTables final tables h)
         → HaveLearned voter repair ledger tables
-    have_learned voter repair ledger tables artifact now final follows copy at unknown tells repairs records ends forgets =
+    have_learned voter repair ledger tables artifact now final follows fits copy at unknown tells repairs records ends forgets =
         let room = room_of s.voter.length (entries (record_of h)) x follows in
         let told = subst (λ (t : ℕ). voting.Keeps g e s.voter voter (takes_certificate t (finalized_of s h) x ++ voter_of s h)) at (tells room (unknown (first_of s.voter.length (entries (record_of h)) x follows))) in
         let last : final ≡ last_finalized (takes_certificate (latest h) (finalized_of s h) x ++ voter_of s h) = ends _ told in
         record {
           told = told;
           repaired = repairs room;
-          recorded = subst (λ (a : Artifact S D P G C). KeepsRecord k f.artifact (owner_of s) ledger (record_of h ++ a ∷ [])) copy
-              (records (subst (λ (a : Artifact S D P G C). MayFollow s.voter.length (entries (record_of h)) (entry a)) (sym copy) follows));
+          recorded = subst (λ (a : Artifact S D P G C). KeepsRecord k f.artifact (owner_of s) ledger (kept_of s.voter.length h ++ a ∷ [])) copy
+              (records (subst (λ (a : Artifact S D P G C). MayFollow s.voter.length (entries (kept_of s.voter.length h)) (entry a)) (sym copy) fits));
           forgot = subst (λ (n : ℕ). KeepsTables n tables h) last (forgets (subst (λ (n : ℕ). finalized_of s h ≤ n) (sym last) (rises (latest h) (finalized_of s h) x (voter_of s h))));
         }
 
@@ -260,7 +267,7 @@ module _ {S L D P G C K : Type 0} (g : Ghosts S D P G C) (e : elector.Ghosts L S
   tried_one p before after (Err why) act did taken leaves = record { ok = tt; any_moment = λ it. book_weaker k (IsLeftBy g f s h p) (IsLeftByActs g f s h) (λ read left. left_by_act p read act left) (book_of old) (book_of new) (leaves it) }
 
   -- nothing was left to be done
-  pub tried_none : (actions : List (Action S D P G C)) → Done h → CoreKeeps g e k f s new h → (k.keeps → LeaveBook k (book_of old) (book_of new) (λ read. read ≡ map f.artifact (record_of h)))
+  pub tried_none : (actions : List (Action S D P G C)) → Done h → CoreKeeps g e k f s new h → (k.keeps → LeaveBook k (book_of old) (book_of new) (λ read. read ≡ map f.artifact (kept_of s.voter.length h)))
       → WasTried g e k f s is_kind Done old new h actions actions (Ok came.Nothing)
   tried_none actions done keeps leaves = record {
     ok = record {
@@ -270,13 +277,13 @@ module _ {S L D P G C K : Type 0} (g : Ghosts S D P G C) (e : elector.Ghosts L S
       acted = record { own = All-nil (λ (q : Point S D P G C). is_act q ≡ true); goes = refl; keeps = keeps; acts = nothing_more f actions };
       none = done;
     };
-    any_moment = λ it. book_weaker k (λ read. read ≡ map f.artifact (record_of h)) (IsLeftByActs g f s h) (λ read is. ([], h, All-nil (λ (q : Point S D P G C). is_act q ≡ true), refl, is)) (book_of old) (book_of new) (leaves it);
+    any_moment = λ it. book_weaker k (λ read. read ≡ map f.artifact (kept_of s.voter.length h)) (IsLeftByActs g f s h) (λ read is. ([], h, All-nil (λ (q : Point S D P G C). is_act q ≡ true), refl, is)) (book_of old) (book_of new) (leaves it);
   }
 
   -- it failed before anything was asked of the disk
-  pub tried_failed : (before after : List (Action S D P G C)) (why : NodeFault) → (k.keeps → LeaveBook k (book_of old) (book_of new) (λ read. read ≡ map f.artifact (record_of h)))
+  pub tried_failed : (before after : List (Action S D P G C)) (why : NodeFault) → (k.keeps → LeaveBook k (book_of old) (book_of new) (λ read. read ≡ map f.artifact (kept_of s.voter.length h)))
       → WasTried g e k f s is_kind Done old new h before after (Err why)
   tried_failed before after why leaves = record {
     ok = tt;
-    any_moment = λ it. book_weaker k (λ read. read ≡ map f.artifact (record_of h)) (IsLeftByActs g f s h) (λ read is. ([], h, All-nil (λ (q : Point S D P G C). is_act q ≡ true), refl, is)) (book_of old) (book_of new) (leaves it);
+    any_moment = λ it. book_weaker k (λ read. read ≡ map f.artifact (kept_of s.voter.length h)) (IsLeftByActs g f s h) (λ read is. ([], h, All-nil (λ (q : Point S D P G C). is_act q ≡ true), refl, is)) (book_of old) (book_of new) (leaves it);
   }

@@ -18,7 +18,7 @@ use Rattle.simplex_member.specs.Doing.{ActsEndAnyhow}
 use Rattle.simplex_member.specs.Member.{Goes, NoneDue}
 use Rattle.simplex_member.specs.Packet.{Formats}
 use Rattle.simplex_member.specs.Point.{Point, AreActs, History, is_act}
-use Rattle.simplex_member.specs.Recorded.{record_of}
+use Rattle.simplex_member.specs.Recorded.{kept_of}
 use Rattle.simplex_member.specs.Setup.{Setup}
 use Rattle.node_outbox.specs.Handing.{both_more, hands_as, nothing_more}
 use Rattle.node_requests.specs.Asking.{is_silent}
@@ -176,10 +176,10 @@ module _ {S L D P G C K : Type 0} (g : Ghosts S D P G C) (e : elector.Ghosts L S
 
   -- at first none was
   pub none_acted : (node : Core S L D K P G C) (h : History S D P G C) (actions : List (Action S D P G C)) → CoreKeeps g e k f s node h
-      → (k.keeps → LeaveBook k (book_of node) (book_of node) (λ read. read ≡ map f.artifact (record_of h))) → ActsSoFar node node h 0 actions actions
+      → (k.keeps → LeaveBook k (book_of node) (book_of node) (λ read. read ≡ map f.artifact (kept_of s.voter.length h))) → ActsSoFar node node h 0 actions actions
   none_acted node h actions keeps rests = record {
     did = record { points = []; end = h; acted = record { own = All-nil (λ (p : Point S D P G C). is_act p ≡ true); goes = refl; keeps = keeps; acts = nothing_more f actions }; many = omega arith };
-    any_moment = λ it. book_weaker k (λ read. read ≡ map f.artifact (record_of h)) (IsLeftByActs g f s h) (λ read is. ([], h, All-nil (λ (p : Point S D P G C). is_act p ≡ true), refl, is)) (book_of node) (book_of node) (rests it);
+    any_moment = λ it. book_weaker k (λ read. read ≡ map f.artifact (kept_of s.voter.length h)) (IsLeftByActs g f s h) (λ read is. ([], h, All-nil (λ (p : Point S D P G C). is_act p ≡ true), refl, is)) (book_of node) (book_of node) (rests it);
   }
 
   module _ (old mid new : Core S L D K P G C) (h : History S D P G C) (count : ℕ) (before between after : List (Action S D P G C)) (far : ActsSoFar old mid h count before between) where

@@ -1,5 +1,5 @@
 -- Where a node stands behind what it asked for, and behind what it learnt of leaders.
-use Rattle.std.proofs.Common.{◌≡◌, ◌∷◌, ◌∙◌, [], Bool, true, false, List, Result, map, refl, sym, ap, subst}
+use Rattle.std.proofs.Common.{◌≡◌, ◌∷◌, ◌∙◌, [], ℕ, Bool, true, false, List, Result, map, refl, sym, ap, subst}
 use Rattle.std.proofs.lemmas.List.Elements.{All-cons, All-head, All-nil, All-tail, All-weaker}
 use Rattle.std.proofs.lemmas.Result.{IfOk-weaker, on_ok_weaker}
 use Rattle.std.specs.Prelude.{All, IfOk, OnOk}
@@ -32,7 +32,7 @@ use Rattle.simplex_member.specs.Layers.{finalized_of, is_begun, may_enter, repai
 use Rattle.simplex_member.specs.Member.{EndsWith, Goes, NoneDue}
 use Rattle.simplex_member.specs.Packet.{Formats}
 use Rattle.simplex_member.specs.Point.{Point, Asks, Latches, Leads, History, is_act}
-use Rattle.simplex_member.specs.Recorded.{record_of}
+use Rattle.simplex_member.specs.Recorded.{kept_of}
 use Rattle.simplex_member.specs.Setup.{Setup, owner_of}
 use Rattle.node_outbox.specs.Handing.{AddsDeeds, nothing_more}
 use Rattle.node_requests.specs.declared.acted.Acted.{Acted}
@@ -59,13 +59,13 @@ module _ {S D P G C : Type 0} where
     never : may_enter p ≡ false
     nothing : SaysNothing p
     begun : (h : History S D P G C) → is_begun (p ∷ h) ≡ is_begun h
-    no_record : (h : History S D P G C) → record_of (p ∷ h) ≡ record_of h
+    no_record : (views : ℕ) (h : History S D P G C) → kept_of views (p ∷ h) ≡ kept_of views h
     no_repair : (h : History S D P G C) → repair_of f (p ∷ h) ≡ repair_of f h
 
   -- so does an ask
   aside : (f : Formats S D P G C) (p : Point S D P G C) → is_ask p ≡ true → IsAside f p
-  aside f (Asks view ask to) is = record { own = refl; never = refl; nothing = λ view. (refl, λ r. refl); begun = λ h. refl; no_record = λ h. refl; no_repair = λ h. refl }
-  aside f p is = record { own = cc is; never = cc is; nothing = λ view. (cc is, λ r. cc is); begun = λ h. cc is; no_record = λ h. cc is; no_repair = λ h. cc is }
+  aside f (Asks view ask to) is = record { own = refl; never = refl; nothing = λ view. (refl, λ r. refl); begun = λ h. refl; no_record = λ views h. refl; no_repair = λ h. refl }
+  aside f p is = record { own = cc is; never = cc is; nothing = λ view. (cc is, λ r. cc is); begun = λ h. cc is; no_record = λ views h. cc is; no_repair = λ h. cc is }
 
   fetch_is_ask : (p : Point S D P G C) → is_fetch p ≡ true → is_ask p ≡ true
   fetch_is_ask (Asks view ask to) is = refl
@@ -78,7 +78,7 @@ module _ {S L D P G C K : Type 0} (g : Ghosts S D P G C) (e : elector.Ghosts L S
     allowed : AreAllowed g f s h
     votes : accepting.Keeps g f.same s node.acceptance h
     repair : repairing.Keeps s.voter.length node.repair (repair_of f h)
-    ledger : KeepsRecord k f.artifact (owner_of s) node.ledger (record_of h)
+    ledger : KeepsRecord k f.artifact (owner_of s) node.ledger (kept_of s.voter.length h)
 
   -- behind asks it stands where it stood
   stands_aside : (node : Core S L D K P G C) (points : List (Point S D P G C)) (h end : History S D P G C)
@@ -91,7 +91,7 @@ module _ {S L D P G C K : Type 0} (g : Ghosts S D P G C) (e : elector.Ghosts L S
         allowed = (goes.0, stands.allowed);
         votes = quiet s node.acceptance h p beside.nothing beside.never stands.votes;
         repair = subst (λ (items : List Item). repairing.Keeps s.voter.length node.repair items) (sym (beside.no_repair h)) stands.repair;
-        ledger = subst (λ (xs : List (Artifact S D P G C)). KeepsRecord k f.artifact (owner_of s) node.ledger xs) (sym (beside.no_record h)) stands.ledger;
+        ledger = subst (λ (xs : List (Artifact S D P G C)). KeepsRecord k f.artifact (owner_of s) node.ledger xs) (sym (beside.no_record s.voter.length h)) stands.ledger;
       })
 
   -- while nothing is asked of its disks, a crash leaves the record that a ledger holds
@@ -183,8 +183,8 @@ module _ {S L D P G C K : Type 0} {g : Ghosts S D P G C} {e : elector.Ghosts L S
   -- the record is one that acts of the node's own may leave: none
   rests : LedgerRests g e k f s → k.keeps → LeaveBook k (book_of node) (book_of node) (IsLeftByActs g f s h)
   rests law keeps =
-      book_weaker k (λ read. read ≡ map f.artifact (record_of h)) (IsLeftByActs g f s h)
-      (λ read is. ([], h, All-nil (λ (p : Point S D P G C). is_act p ≡ true), refl, is)) (book_of node) (book_of node) (law (owner_of s) node.ledger (record_of h) kept.ledger keeps)
+      book_weaker k (λ read. read ≡ map f.artifact (kept_of s.voter.length h)) (IsLeftByActs g f s h)
+      (λ read is. ([], h, All-nil (λ (p : Point S D P G C). is_act p ≡ true), refl, is)) (book_of node) (book_of node) (law (owner_of s) node.ledger (kept_of s.voter.length h) kept.ledger keeps)
 
   -- an act that asks was tried
   pub was_asked : {is_kind : Point S D P G C → Bool} {Done : History S D P G C → Type 0} {before after : List (Action S D P G C)} {answer : Result Acted NodeFault} (voter : State S L D P G C) (tables : Tables S D P G C)

@@ -10,7 +10,7 @@ use Rattle.journal_books.specs.Books.{LeaveBook}
 use Rattle.simplex_member.specs.declared.action.Action.{Action}
 use Rattle.simplex_member.specs.declared.fault.NodeFault.{NodeFault}
 use Rattle.simplex_member.specs.Deeds.{Deed, all_deeds}
-use Rattle.simplex_member.specs.Member.{EndsWith, Goes, NoneDue, ReadsAs}
+use Rattle.simplex_member.specs.Member.{EndsWith, Goes, NoneDue, ReadsAsKept}
 use Rattle.simplex_member.specs.Packet.{Formats}
 use Rattle.simplex_member.specs.Point.{Point, AreActs, History}
 use Rattle.simplex_member.specs.Setup.{Setup}
@@ -23,7 +23,7 @@ use Rattle.node_core.specs.Keeps.{CoreKeeps, book_of}
 module _ {S D P G C : Type 0} (g : Ghosts S D P G C) (f : Formats S D P G C) (s : Setup S D C) where
   -- what is read is what acts of the node's own may leave: the record at a point of theirs
   abbrev pub IsLeftByActs : History S D P G C → List (List ℕ) → Type 0
-  IsLeftByActs h read = (points : List (Point S D P G C)) × (end : History S D P G C) × AreActs points × Goes g f s h points end × ReadsAs g f s read end
+  IsLeftByActs h read = (points : List (Point S D P G C)) × (end : History S D P G C) × AreActs points × Goes g f s h points end × ReadsAsKept g f s read end
 
 module _ {S L D P G C K : Type 0} (g : Ghosts S D P G C) (e : elector.Ghosts L S D P G C) (k : disk.Ghosts K) (f : Formats S D P G C) (s : Setup S D C) where
   -- these points of the node's own were gone through, each allowed behind those before it: the node stands at their end, and what they

@@ -38,14 +38,13 @@ use node_requests::{Acted, is_given_up};
 use node_votes::silent_points_leave_votes;
 use simplex_member::{
     Action, NodeFault, Speaks, due_may_be_recorded, known_nullifies_are_recorded,
-    packets_are_read_back, proposals_lie_in_their_views, records_stay_lawful, voters_are_orderly,
-    voters_tell_the_record,
+    packets_are_read_back, proposals_lie_in_their_views, voters_are_orderly,
+    what_is_kept_stands_for_all, what_is_kept_tells_all,
 };
 use simplex_messages::{Activity, Vote};
 use types_core::{Digest, Scheme, View};
 use types_terms::Elector;
 use voter_history::TimeoutReason;
-use voter_laws::what_is_known_is_recorded;
 
 /// Votes to notarize the proposal of the lowest view where that is due.
 ///
@@ -171,10 +170,8 @@ fn repeat_nullify<S: Scheme<D> + Drop, L: Elector<S, D>, D: Digest, K: Disk>(
     ensures faults { TellsOfDisk K.Disk (disks_of core.old) (disks_of core.new) result }
 {
     known_nullifies_are_recorded::<S, D>();
-    records_stay_lawful::<S, D>();
-    what_is_known_is_recorded::<S, D>();
-    voters_are_orderly::<S, D>();
-    voters_tell_the_record::<S, D>();
+    what_is_kept_stands_for_all::<S, D>();
+    what_is_kept_tells_all::<S, D>();
     the_nullify_of_the_current_view_is_the_last::<S, D>();
     a_ledger_at_rest_leaves_its_record::<S, D, K>();
     silent_points_leave_votes::<S, D>();
@@ -224,6 +221,7 @@ fn cast<S: Scheme<D> + Drop, L: Elector<S, D>, D: Digest, K: Disk>(
     quiet_points_leave_the_tables::<S, D>();
     own_votes_come_free::<S, D>();
     packets_are_read_back::<S, D>();
+    what_is_kept_stands_for_all::<S, D>();
     // The proof takes from the number how far it goes.
     let _members = core.settings.scheme.participants();
     let alloc = core.settings.alloc;

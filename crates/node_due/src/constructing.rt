@@ -33,7 +33,8 @@ use node_requests::{Acted, name_leader};
 use node_votes::Due;
 use simplex_batcher::Batch;
 use simplex_member::{
-    Action, NodeFault, Speaks, packets_are_read_back, what_is_made_may_be_recorded,
+    Action, NodeFault, Speaks, packets_are_read_back, what_is_kept_stands_for_all,
+    what_is_made_may_be_recorded,
 };
 use types_core::{Digest, Proposal, Scheme, View};
 use types_terms::Elector;
@@ -217,6 +218,7 @@ fn learn_made<S: Scheme<D> + Drop, L: Elector<S, D>, D: Digest, K: Disk>(
     ensures faults { TellsOfDisk K.Disk (disks_of core.old) (disks_of core.new) result }
 {
     what_is_not_recorded_is_unknown::<S, D>();
+    what_is_kept_stands_for_all::<S, D>();
     a_ledger_at_rest_leaves_its_record::<S, D, K>();
     let alloc = core.settings.alloc;
     let now = core.tables.moment();

@@ -13,6 +13,7 @@ use Rattle.messages_certificates.specs.ProposalCertificate.{Notarization}
 use Rattle.simplex_messages.specs.declared.activity.Activity.TheVariants as activity
 use Rattle.simplex_record.specs.declared.owner.Owner.{Owner}
 use Rattle.simplex_record.specs.Record.{entries, judged}
+use Rattle.simplex_record.specs.Lawful.{Fits}
 use Rattle.simplex_record.specs.Rules.{MayFollow, MayJudge}
 use Rattle.simplex_state.specs.declared.state.State.{State}
 use Rattle.simplex_state.specs.State as voting
@@ -33,7 +34,7 @@ use Rattle.simplex_member.specs.Laws.{IsJudgeable}
 use Rattle.simplex_member.specs.Layers.{finalized_of, is_begun, notarization_bytes, repair_of, voter_of}
 use Rattle.simplex_member.specs.Packet.{Formats, IsRecordable}
 use Rattle.simplex_member.specs.Point.{History, Judged}
-use Rattle.simplex_member.specs.Recorded.{notarization_in, record_of}
+use Rattle.simplex_member.specs.Recorded.{kept_of, notarization_in, record_of}
 use Rattle.simplex_member.specs.Setup.{Setup, owner_of}
 use Rattle.node_core.specs.declared.node_state.Core.{Core}
 use Rattle.node_core.specs.Keeps.{CoreKeeps}
@@ -83,15 +84,15 @@ module _ {S L D P G C K : Type 0} (g : Ghosts S D P G C) (e : elector.Ghosts L S
   }
 
   -- once it is recorded the record is a point ahead
-  pub verdict_recorded : (node : Core S L D K P G C) (ledger : Ledger S D K P G C) (h : History S D P G C) (t r : Round) (ok : Bool) → t ≡ r → CoreKeeps g e k f s node h → IsJudgeable g f s h r
+  pub verdict_recorded : (node : Core S L D K P G C) (ledger : Ledger S D K P G C) (h : History S D P G C) (t r : Round) (ok : Bool) → t ≡ r → CoreKeeps g e k f s node h → Fits (g.attests s.voter.scheme) (g.certifies s.voter.scheme) (owner_of s) (kept_of s.voter.length h) (artifact.Certification r ok)
       → ((owner : Owner) (xs : List (Artifact S D P G C)) → KeepsRecord k f.artifact owner node.ledger xs → MayFollow owner.term_length (entries xs) (judged t ok)
       → KeepsRecord k f.artifact owner ledger (xs ++ artifact.Certification t ok ∷ []))
       → RecordIsAhead g e k f s (record node { ledger = ledger }) h (Judged r ok)
-  verdict_recorded node ledger h t r ok is keeps judgeable records = record {
+  verdict_recorded node ledger h t r ok is keeps fits records = record {
     ledger = node.ledger;
     keeps = keeps;
-    ahead = subst (λ (x : Round). KeepsRecord k f.artifact (owner_of s) ledger (record_of h ++ artifact.Certification x ok ∷ [])) is
-        (records (owner_of s) (record_of h) keeps.ledger (subst (λ (x : Round). MayJudge (entries (record_of h)) x) (sym is) judgeable.follows));
+    ahead = subst (λ (x : Round). KeepsRecord k f.artifact (owner_of s) ledger (kept_of s.voter.length h ++ artifact.Certification x ok ∷ [])) is
+        (records (owner_of s) (kept_of s.voter.length h) keeps.ledger (subst (λ (x : Round). MayJudge (entries (kept_of s.voter.length h)) x) (sym is) fits.follows));
   }
 
 -- the round of a view in an owner's epoch

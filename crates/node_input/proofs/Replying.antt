@@ -26,7 +26,7 @@ use Rattle.simplex_member.specs.First.{IsFirst}
 use Rattle.simplex_member.specs.Member.{AreStep, IsPointOf, IsReached}
 use Rattle.simplex_member.specs.Packet.{Formats}
 use Rattle.simplex_member.specs.Point.{Point, History, is_act}
-use Rattle.simplex_member.specs.Recorded.{record_of}
+use Rattle.simplex_member.specs.Recorded.{kept_of}
 use Rattle.simplex_member.specs.Refusals.{needs_nothing, refused_deeds, tests}
 use Rattle.simplex_member.specs.Setup.{Setup}
 use Rattle.node_core.specs.declared.node_state.Core.{Core}
@@ -76,8 +76,8 @@ module _ {S D P G C K : Type 0} (g : Ghosts S D P G C) (f : Formats S D P G C) (
   point-reached p none of_it leaves = book_weaker k (IsLeftBy g f s h p) (IsReached g f s h event) (λ read left. reached event p read none of_it left) old new leaves
 
   -- it leaves the record
-  pub rest-reached : LeaveBook k old new (λ read. read ≡ map f.artifact (record_of h)) → LeaveBook k old new (IsReached g f s h event)
-  rest-reached leaves = book_weaker k (λ read. read ≡ map f.artifact (record_of h)) (IsReached g f s h event) (λ read is. inl is) old new leaves
+  pub rest-reached : LeaveBook k old new (λ read. read ≡ map f.artifact (kept_of s.voter.length h)) → LeaveBook k old new (IsReached g f s h event)
+  rest-reached leaves = book_weaker k (λ read. read ≡ map f.artifact (kept_of s.voter.length h)) (IsReached g f s h event) (λ read is. inl is) old new leaves
 
 module _ {S L D P G C K : Type 0} {g : Ghosts S D P G C} {e : elector.Ghosts L S D P G C} {k : disk.Ghosts K} {f : Formats S D P G C} {s : Setup S D C} {new : Core S L D K P G C} {h : History S D P G C} (event : Event D) (actions : List (Action S D P G C)) where
   -- an event was taken
@@ -108,7 +108,7 @@ unasked k old new answer same memory = subst (λ (b : _). TellsOfDisk k (words.d
 
 module _ {S D P G C K : Type 0} (g : Ghosts S D P G C) (f : Formats S D P G C) (s : Setup S D C) (h : History S D P G C) (k : disk.Ghosts K) (old new : Books (Artifact S D P G C) K) (event : Event D) where
   -- where the journal is the same, a crash leaves the record
-  pub still-reached : new ≡ old → LeaveBook k old old (λ read. read ≡ map f.artifact (record_of h)) → LeaveBook k old new (IsReached g f s h event)
+  pub still-reached : new ≡ old → LeaveBook k old old (λ read. read ≡ map f.artifact (kept_of s.voter.length h)) → LeaveBook k old new (IsReached g f s h event)
   still-reached same leaves = subst (λ (b : Books (Artifact S D P G C) K). LeaveBook k old b (IsReached g f s h event)) (sym same) (rest-reached g f s h k old old event leaves)
 
 module _ {S L D P G C K : Type 0} (g : Ghosts S D P G C) (e : elector.Ghosts L S D P G C) (k : disk.Ghosts K) (f : Formats S D P G C) (s : Setup S D C) (new : Core S L D K P G C) (h : History S D P G C) where
@@ -163,7 +163,7 @@ module _ {S L D P G C K : Type 0} (g : Ghosts S D P G C) (e : elector.Ghosts L S
   -- a packet was refused, for no contradiction
   pub refused-handled : (sender : ℕ) (by : Channel) (bytes : Vec ℕ Global) (r : Refusal) (before after : List (Action S D P G C)) → before ≡ [] → IsFirst (tests g f s h (event.Packet sender by bytes)) (Some r) → r ≢ refusal.Contradiction
       → AddsDeeds f before after (if blocks_sender r then Blocks sender ∷ [] else [])
-      → CoreKeeps g e k f s node h → (k.keeps → LeaveBook k (book_of node) (book_of node) (λ read. read ≡ map f.artifact (record_of h)))
+      → CoreKeeps g e k f s node h → (k.keeps → LeaveBook k (book_of node) (book_of node) (λ read. read ≡ map f.artifact (kept_of s.voter.length h)))
       → IsHandled g e k f s node node h (event.Packet sender by bytes) after (Ok (Some r))
   refused-handled sender by bytes r before after none first other acts keeps leaves =
       let deeds = evidence_deeds g f s h sender (f.packet_in by bytes.items) in
@@ -178,7 +178,7 @@ module _ {S L D P G C K : Type 0} (g : Ghosts S D P G C) (e : elector.Ghosts L S
 
   -- or there was no memory for it
   pub refused-unhandled : (sender : ℕ) (by : Channel) (bytes : Vec ℕ Global) (r : Refusal) (why : NodeFault) (after : List (Action S D P G C)) → IsFirst (tests g f s h (event.Packet sender by bytes)) (Some r) → blocks_sender r ≡ true
-      → (k.keeps → LeaveBook k (book_of node) (book_of node) (λ read. read ≡ map f.artifact (record_of h)))
+      → (k.keeps → LeaveBook k (book_of node) (book_of node) (λ read. read ≡ map f.artifact (kept_of s.voter.length h)))
       → IsHandled g e k f s node node h (event.Packet sender by bytes) after (Err why)
   refused-unhandled sender by bytes r why after first memory leaves = record {
     ok = tt;

@@ -7,7 +7,7 @@ use Rattle.node_record.specs.declared.ledger.Ledger.{Ledger}
 use Rattle.node_record.specs.Ledger.{KeepsRecord}
 use Rattle.simplex_member.specs.Packet.{Formats}
 use Rattle.simplex_member.specs.Point.{Point, History}
-use Rattle.simplex_member.specs.Recorded.{record_of}
+use Rattle.simplex_member.specs.Recorded.{kept_of}
 use Rattle.simplex_member.specs.Setup.{Setup, owner_of}
 use Rattle.node_core.specs.declared.node_state.Core.{Core}
 use Rattle.node_core.specs.Keeps.{CoreKeeps}
@@ -17,4 +17,4 @@ module _ {S L D P G C K : Type 0} (g : Ghosts S D P G C) (e : elector.Ghosts L S
   pub record RecordIsAhead (node : Core S L D K P G C) (h : History S D P G C) (p : Point S D P G C) : Type 0 where
     pub ledger : Ledger S D K P G C
     pub keeps : CoreKeeps g e k f s (record node { ledger = ledger }) h
-    pub ahead : KeepsRecord k f.artifact (owner_of s) node.ledger (record_of (p ∷ h))
+    pub ahead : KeepsRecord k f.artifact (owner_of s) node.ledger (kept_of s.voter.length (p ∷ h))

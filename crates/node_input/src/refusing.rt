@@ -17,9 +17,11 @@ ghost use Rattle.node_input.specs.Refusing.{IsAnother, MayBeHeard, first_vote_te
 
 use journal_single::Disk;
 use messages_certificates::Certificate;
-use node_core::Core;
+use node_core::{
+    Core, knows_like, what_is_not_recorded_is_unknown, what_is_unknown_is_not_recorded,
+};
 use node_inbox::{has_parent_below, vote_has_parent_below};
-use simplex_member::{Refusal, Speaks, what_is_kept_tells_all};
+use simplex_member::{Refusal, Speaks};
 use simplex_messages::Vote;
 use types_core::{Attributable, Digest, Epochable, Participant, Scheme, View, Viewable};
 use types_terms::Elector;
@@ -84,6 +86,8 @@ pub(crate) fn certificate_refusal<S: Scheme<D> + Drop, L: Elector<S, D>, D: Dige
         (AtOwn S.Scheme L.Elector K.Disk ⟦<S as Speaks<D>>⟧.formats core.now (λ f s h.
         IsRecordable f (certificate_artifact certificate.now) → Allowed S.Scheme f s h (Came certificate.now))) }
 {
+    what_is_not_recorded_is_unknown::<S, D>();
+    what_is_unknown_is_not_recorded::<S, D>();
     let view = certificate.view();
     if certificate.epoch() != core.settings.owner.epoch {
         return Some(Refusal::WrongEpoch);
@@ -100,7 +104,8 @@ pub(crate) fn certificate_refusal<S: Scheme<D> + Drop, L: Elector<S, D>, D: Dige
     if !has_parent_below(certificate) {
         return Some(Refusal::ParentNotBelow);
     }
-    if core.ledger.recorded().has_like(certificate) {
+    // What was recorded before a rewrite counts too: the voter knows it.
+    if knows_like(&core.voter, certificate) {
         return Some(Refusal::Repeated);
     }
     if !certificate.verify(&*core.settings.scheme) {
@@ -119,7 +124,6 @@ pub(crate) fn verdict_refusal<S: Scheme<D> + Drop, L: Elector<S, D>, D: Digest, 
         (λ f s h. (ok : Bool) → IsFirst (tests S.Scheme f s h (event.Verdict view ok)) result) }
     ensures may { IfNone result (AtOwn S.Scheme L.Elector K.Disk ⟦<S as Speaks<D>>⟧.formats core.now (λ f s h. IsAwaited s h view)) }
 {
-    what_is_kept_tells_all::<S, D>();
     if core.ledger.recorded().is_judged(view) {
         return Some(Refusal::SecondVerdict);
     }

@@ -15,7 +15,7 @@ use messages_certificates::Certificate;
 use node_core::{Core, tell_voter, tell_votes, update_repair, what_is_not_recorded_is_unknown};
 use node_inbox::record;
 use node_record::a_ledger_at_rest_leaves_its_record;
-use simplex_member::{Action, NodeFault, Speaks};
+use simplex_member::{Action, NodeFault, Speaks, what_is_kept_stands_for_all};
 use types_core::{Digest, Scheme};
 use types_terms::Elector;
 
@@ -75,6 +75,7 @@ fn learn<S: Scheme<D> + Drop, L: Elector<S, D>, D: Digest, K: Disk>(
     ensures not_failed { ¬ IsErrOf result NodeFault.Failed }
 {
     what_is_not_recorded_is_unknown::<S, D>();
+    what_is_kept_stands_for_all::<S, D>();
     a_ledger_at_rest_leaves_its_record::<S, D, K>();
     let alloc = core.settings.alloc;
     let now = core.tables.moment();

@@ -30,6 +30,7 @@ use node_record::quiet_points_leave_the_tables;
 use node_votes::silent_points_leave_votes;
 use simplex_member::{
     Action, NodeFault, Speaks, awaited_verdicts_may_be_taken, packets_are_read_back,
+    what_is_kept_stands_for_all,
 };
 use simplex_resolver::State as Repair;
 use std::alloc::Global;
@@ -69,6 +70,7 @@ pub(crate) fn take_verdict<S: Scheme<D> + Drop, L: Elector<S, D>, D: Digest, K: 
 {
     awaited_verdicts_may_be_taken::<S, D>();
     packets_are_read_back::<S, D>();
+    what_is_kept_stands_for_all::<S, D>();
     // The proof takes from the number how far it goes.
     let _members = core.settings.scheme.participants();
     let round = Round::new(core.settings.owner.epoch, view);

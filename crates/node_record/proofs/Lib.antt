@@ -8,3 +8,7 @@ pub mod Asking
 pub mod Firsts
 pub mod Verdicts
 pub mod Quiet
+pub mod Beginning
+pub mod Built
+pub mod Rewriting
+pub mod Appended

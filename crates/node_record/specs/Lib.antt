@@ -1,5 +1,6 @@
 pub mod Places
 pub mod Recorded
 pub mod Ledger
+pub mod Founding
 pub mod Tables
 pub mod Noting

@@ -1,12 +1,12 @@
 -- What a member has recorded.
-use Rattle.std.specs.Prelude.{◌≡◌, ◌<◌, List, ◌∷◌, ◌++◌, Contains, vec_capacity, vec_len}
+use Rattle.std.specs.Prelude.{◌≡◌, ◌<◌, ℕ, List, ◌∷◌, ◌++◌, Contains, vec_capacity, vec_len}
 use Rattle.types_core.specs.Subject.{Statement}
 use Rattle.messages_certificates.specs.declared.artifact.Artifact.{Artifact}
 use Rattle.messages_certificates.specs.declared.artifact.Artifact.TheVariants as artifact
 use Rattle.messages_certificates.specs.declared.nullify.Nullify.{Nullify}
 use Rattle.simplex_record.specs.declared.owner.Owner.{Owner}
-use Rattle.simplex_record.specs.Record.{Entry, entries, HasTaken}
-use Rattle.simplex_record.specs.Rules.{AreAlike}
+use Rattle.simplex_record.specs.Record.{Entry, entries, entry, HasTaken}
+use Rattle.simplex_record.specs.Rules.{AreAlike, MayFollow}
 use Rattle.simplex_record.specs.CheckerState as kept
 use Rattle.node_record.specs.declared.recorded.Recorded.{Recorded}
 use Rattle.node_record.specs.Places.{KeepsPlaces}
@@ -26,6 +26,10 @@ module _ {S D P G C : Type 0} where
     pub after : List (Artifact S D P G C)
     pub is : xs ≡ before ++ artifact.Nullify v ∷ after
     pub last : HasNoNullify after
+
+  -- each of these artifacts may stand behind those before it, by all rules but that it verifies
+  abbrev pub EachMayFollow : ℕ → List (Artifact S D P G C) → Type 0
+  EachMayFollow views xs = (before after : List (Artifact S D P G C)) (x : Artifact S D P G C) → xs ≡ before ++ x ∷ after → MayFollow views (entries before) (entry x)
 
   -- this owner has recorded these artifacts, the oldest first
   pub record HoldsRecord (owner : Owner) (recorded : Recorded S D P G C) (xs : List (Artifact S D P G C)) : Type 0 where

@@ -1,19 +1,22 @@
-//! The record on its disks: the one place where it grows.
+//! The record on its disks: the one place where it grows, or is rewritten.
 
-ghost use Rattle.std.specs.Prelude.{◌≡◌, ◌≢◌, ◌↔◌, ◌⊎◌, ◌++◌, ◌∷◌, [], ℕ, List, map, true, false, IfOk, IfErr, OnOk, IsErrOf};
+ghost use Rattle.std.specs.Prelude.{◌≡◌, ◌≢◌, ◌↔◌, ◌⊎◌, ◌++◌, ◌∷◌, [], ℕ, List, map, All, true, false, Some, None, Ok, IsTrue, IfOk, IfErr, OnOk, IsErrOf};
 ghost use Rattle.types_codec.specs.Codec.{Readable};
 ghost use Rattle.messages_certificates.specs.Artifact.{artifact_spelling, artifact_within};
 ghost use Rattle.messages_certificates.specs.declared.artifact.Artifact.{Artifact};
+ghost use Rattle.messages_certificates.specs.ProposalCertificate.{Finalization};
 ghost use Rattle.simplex_record.specs.declared.owner.Owner.{Owner};
 ghost use Rattle.simplex_record.specs.Record.{entry, entries};
 ghost use Rattle.simplex_record.specs.Rules.{MayFollow};
+ghost use Rattle.simplex_record.specs.Lawful.{IsLawful, rewritten};
 ghost use Rattle.simplex_journal.specs.declared.fault.PairFault.TheVariants as journal_fault;
 ghost use Rattle.journal_books.specs.Books as words;
-ghost use Rattle.journal_books.specs.Books.{AreLeftAsTheyWere, HasFailed, HasNotFailed, IsBook, IsForeignOn, IsWithOrWithout, Leave, LeaveBook, LeaveSince, MayBeRead, has_failed};
+ghost use Rattle.journal_books.specs.Books.{AreLeftAsTheyWere, HasFailed, HasNotFailed, IsBook, IsForeignOn, IsWithOrWithout, Leave, LeaveBook, LeaveSince, MayBeRead, has_failed, may_rewrite};
 ghost use Rattle.simplex_member.specs.declared.fault.NodeFault.{NodeFault};
 ghost use Rattle.simplex_member.specs.declared.fault.NodeFault.TheVariants as step_fault;
 ghost use Rattle.simplex_member.specs.declared.fault.OpenFault.TheVariants as open_fault;
-ghost use Rattle.node_record.specs.Ledger.{IsContradiction, IsOpeningFault, OpensOver, KeepsRecord, book_of, disks_of};
+ghost use Rattle.simplex_member.specs.Recorded.{next_floor};
+ghost use Rattle.node_record.specs.Ledger.{IsContradiction, IsOpeningFault, IsRewriting, OpensOver, KeepsRecord, book_of, disks_of, next_view};
 ghost use Rattle.node_record.specs.Recorded.{HoldsRecord};
 
 use crate::recorded::Recorded;
@@ -23,7 +26,7 @@ use simplex_journal::{Disk, PairFault};
 use simplex_member::{NodeFault, OpenFault};
 use simplex_record::Owner;
 use std::alloc::Global;
-use types_core::{Digest, EncodeSize, Read, Scheme, Write};
+use types_core::{Digest, EncodeSize, Read, Scheme, View, Viewable, Write};
 
 /// What a member has recorded, and the disks that it stands on.
 #[derive(Drop)]
@@ -142,6 +145,85 @@ impl<S: Scheme<D>, D: Digest, K: Disk> Ledger<S, D, K> {
         }
     }
 
+    /// Rewrites the record, so that it begins with the finalization of its last finalized view, and keeps of all
+    /// else what reaches above that. What is kept is built anew whole, then the disks take it, and only then it
+    /// takes the place of what was recorded. Answers the view; or `None` where there is nothing to rewrite, since
+    /// the record begins behind that view already, stands on one disk, or was rewritten as often as it can be.
+    ///
+    /// # Errors
+    ///
+    /// [`NodeFault::Memory`], also for what is too long for a disk or can't be read again: then nothing is
+    /// changed. And [`NodeFault::Device`]: afterwards nothing is said of the ledger, but that a crash leaves the
+    /// record from before the call or the rewritten one.
+    #[tactic(auto, using(journal_books::specs::BooksLaws::same_not_failed))]
+    pub fn rewrite(&mut self, alloc: Global) -> Result<Option<View>, NodeFault>
+        ensures view { IfOk result (λ view.
+            (owner : Owner) (xs : List (Artifact S D S.PublicKey S.Signature S.Certificate))
+            → KeepsRecord K.Disk (artifact_spelling D.spelling S.Signature.spelling S.Certificate.spelling) owner self.old xs
+            → view ≡ next_view (may_rewrite (book_of self.old)) xs) }
+        ensures keeps { OnOk result (
+            (scheme : S) (owner : Owner) (xs : List (Artifact S D S.PublicKey S.Signature S.Certificate))
+            (c : Finalization S D S.PublicKey S.Signature S.Certificate)
+            → may_rewrite (book_of self.old) ≡ true
+            → KeepsRecord K.Disk (artifact_spelling D.spelling S.Signature.spelling S.Certificate.spelling) owner self.old xs
+            → IsLawful (S.attests scheme) (S.certifies scheme) owner xs
+            → next_floor xs ≡ Some c
+            → KeepsRecord K.Disk (artifact_spelling D.spelling S.Signature.spelling S.Certificate.spelling) owner self.new (rewritten owner.term_length c xs)) }
+
+        // Nothing is changed but where a view is told, or a disk has failed.
+        ensures none { IfOk result (λ view. view ≡ None → self.new ≡ self.old) }
+        ensures unchanged { IfErr result (λ why. why ≢ step_fault.Device → self.new ≡ self.old) }
+
+        // Where there is nothing to rewrite, that is always told.
+        ensures none_if_it_cannot { may_rewrite (book_of self.old) ≡ false → result ≡ Ok None }
+        ensures none_if_it_begins_there { (owner : Owner) (xs : List (Artifact S D S.PublicKey S.Signature S.Certificate))
+            → KeepsRecord K.Disk (artifact_spelling D.spelling S.Signature.spelling S.Certificate.spelling) owner self.old xs
+            → next_floor xs ≡ None
+            → result ≡ Ok None }
+
+        // A crash at any moment of the call leaves the record from before it or the rewritten one.
+        ensures any_moment { (owner : Owner) (xs : List (Artifact S D S.PublicKey S.Signature S.Certificate))
+            → KeepsRecord K.Disk (artifact_spelling D.spelling S.Signature.spelling S.Certificate.spelling) owner self.old xs
+            → K.keeps
+            → Leave K.Disk (disks_of self.old) (disks_of self.new)
+            (IsRewriting (artifact_spelling D.spelling S.Signature.spelling S.Certificate.spelling) owner.term_length xs) }
+
+        // A disk has failed once more exactly where that is told.
+        ensures device { IsErrOf result NodeFault.Device → HasFailed K.Disk (disks_of self.old) (disks_of self.new) }
+        ensures no_device { IfErr result (λ why. why ≢ step_fault.Device → HasNotFailed K.Disk (disks_of self.old) (disks_of self.new)) }
+        ensures no_fault { OnOk result (HasNotFailed K.Disk (disks_of self.old) (disks_of self.new)) }
+
+        ensures not_failed { (owner : Owner) (xs : List (Artifact S D S.PublicKey S.Signature S.Certificate))
+            → KeepsRecord K.Disk (artifact_spelling D.spelling S.Signature.spelling S.Certificate.spelling) owner self.old xs
+            → ¬ IsErrOf result NodeFault.Failed }
+    {
+        a_book_at_rest_leaves_its_record::<Artifact<S, D>, K>();
+        if !self.books.may_rewrite() {
+            return Ok(None);
+        }
+        let Some(floor) = self.recorded.next_floor() else {
+            return Ok(None);
+        };
+        let view = floor.view();
+        let Ok(left) = self.recorded.rewritten(alloc, floor) else {
+            return Err(NodeFault::Memory);
+        };
+        if !are_within(&left.artifacts) {
+            drop(left);
+            return Err(NodeFault::Memory);
+        }
+        match rewrite_book(&mut self.books, &left.artifacts) {
+            Ok(()) => {
+                self.recorded = left;
+                Ok(Some(view))
+            }
+            Err(fault) => {
+                drop(left);
+                Err(fault)
+            }
+        }
+    }
+
     /// What is recorded.
     pub fn recorded(&self) -> &Recorded<S, D>
         ensures { (owner : Owner) (xs : List (Artifact S D S.PublicKey S.Signature S.Certificate))
@@ -193,6 +275,51 @@ fn append<M: Read + EncodeSize + Drop, K: Disk>(
         Err(PairFault::Memory | PairFault::TooLong) => Err(NodeFault::Memory),
         Err(PairFault::Foreign(_) | PairFault::Exhausted) => unreachable!(),
     }
+}
+
+/// Has a journal that can be rewritten make a list its record, and tells a fault as a node does.
+fn rewrite_book<M: Read + EncodeSize + Drop, K: Disk>(
+    books: &mut Books<M, K>,
+    list: &[M],
+) -> Result<(), NodeFault>
+    requires may { may_rewrite books.old ≡ true }
+    requires within { All (M.within 65535) list.now }
+    ensures record { OnOk result ((messages : List M)
+        → K.keeps
+        → IsBook K.Disk M.spelling books.old messages
+        → IsBook K.Disk M.spelling books.new list.now) }
+    ensures any_moment { (messages : List M)
+        → K.keeps
+        → IsBook K.Disk M.spelling books.old messages
+        → Leave K.Disk (words.disks_of books.old) (words.disks_of books.new)
+        (λ read. (read ≡ map M.spelling messages) ⊎ (read ≡ map M.spelling list.now)) }
+    ensures stays_open { OnOk result (has_failed books.new ≡ false) }
+    ensures device { IsErrOf result NodeFault.Device → HasFailed K.Disk (words.disks_of books.old) (words.disks_of books.new) }
+    ensures no_fault { OnOk result (HasNotFailed K.Disk (words.disks_of books.old) (words.disks_of books.new)) }
+    ensures unchanged { IfErr result (λ why. why ≢ step_fault.Device → books.new ≡ books.old) }
+    ensures failed { IsErrOf result NodeFault.Failed → has_failed books.old ≡ true }
+{
+    match books.rewrite(list) {
+        Ok(()) => Ok(()),
+        Err(PairFault::Device) => Err(NodeFault::Device),
+        Err(PairFault::Failed) => Err(NodeFault::Failed),
+        Err(PairFault::Memory | PairFault::TooLong) => Err(NodeFault::Memory),
+        Err(PairFault::Foreign(_) | PairFault::Exhausted) => unreachable!(),
+    }
+}
+
+/// Whether each of these artifacts can be read again.
+fn are_within<S: Scheme<D>, D: Digest>(artifacts: &[Artifact<S, D>]) -> bool
+    ensures { IsTrue result ↔ All (artifact_within (S.Certificate.within 65535)) artifacts.now }
+{
+    let mut rest = artifacts;
+    while let Some((artifact, behind)) = rest.split_first() {
+        if !artifact.is_within(65_535) {
+            return false;
+        }
+        rest = behind;
+    }
+    true
 }
 
 /// Why a record was not opened, by why its journal was not.

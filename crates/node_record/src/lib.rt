@@ -1,6 +1,7 @@
 //! What a member has recorded, on its disks and at hand, and what it remembers of what it asked for.
 #![tactic(auto)]
 
+mod founding;
 mod laws;
 mod ledger;
 mod places;

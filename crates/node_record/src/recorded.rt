@@ -1,24 +1,26 @@
 //! What a member has recorded: its artifacts in their order, and what they tell.
 
-ghost use Rattle.std.specs.Prelude.{◌≡◌, ◌↔◌, ◌⊎◌, ◌++◌, ◌∷◌, [], ℕ, List, Bool, Some, IsTrue, IfOk, IfErr, OnOk, MatchOption};
+ghost use Rattle.std.specs.Prelude.{◌≡◌, ◌↔◌, ◌⊎◌, ◌++◌, ◌∷◌, [], ℕ, List, Bool, Some, Contains, IsTrue, IfOk, IfErr, OnOk, MatchOption};
 ghost use Rattle.std.specs.Option.{option_copied};
 ghost use Rattle.types_core.specs.declared.position.Round.{Round};
 ghost use Rattle.messages_certificates.specs.declared.artifact.Artifact.{Artifact};
+ghost use Rattle.messages_certificates.specs.declared.artifact.Artifact.TheVariants as artifact;
 ghost use Rattle.messages_certificates.specs.Certificate.{certificate_statement};
 ghost use Rattle.simplex_record.specs.declared.owner.Owner.{Owner};
-ghost use Rattle.simplex_record.specs.Record.{entry, entries, HasCertificate, HasJudged, HasVerdict};
+ghost use Rattle.simplex_record.specs.CheckerState.{Keeps};
+ghost use Rattle.simplex_record.specs.Record.{entry, entries, last_finalized, HasCertificate, HasJudged, HasVerdict};
 ghost use Rattle.simplex_record.specs.Rules.{MayFollow};
-ghost use Rattle.simplex_record.specs.Lawful.{IsLawful, IsRefusedAt};
+ghost use Rattle.simplex_record.specs.Lawful.{IsLawful, IsRefusedAt, rewritten};
 ghost use Rattle.simplex_member.specs.declared.fault.OpenFault.TheVariants as fault;
-ghost use Rattle.simplex_member.specs.Recorded.{finalization_in, notarization_in};
+ghost use Rattle.simplex_member.specs.Recorded.{finalization_in, next_floor, notarization_in};
 ghost use Rattle.node_record.specs.Noting.{HasNoted};
 ghost use Rattle.node_record.specs.Places.{at_place};
-ghost use Rattle.node_record.specs.Recorded.{AtEach, HasLike, HasNoNullify, HoldsRecord, IsLastNullifyOf, IsReserved};
+ghost use Rattle.node_record.specs.Recorded.{AtEach, EachMayFollow, HasLike, HasNoNullify, HoldsRecord, IsLastNullifyOf, IsReserved};
 
 use crate::places::{Places, finalization_of, notarization_of, nullify_of};
 use messages_certificates::{Artifact, Certificate, Finalization, Notarization, Nullify};
 use simplex_member::OpenFault;
-use simplex_record::{Owner, Standing, check};
+use simplex_record::{Owner, Standing, a_rewritten_record_is_lawful, check, rewritten};
 use std::alloc::{AllocError, Global};
 use std::cmp::Reverse;
 use types_core::{Digest, Scheme, TermLength, View, Viewable};
@@ -198,6 +200,58 @@ impl<S: Scheme<D>, D: Digest> Recorded<S, D> {
         }
     }
 
+    /// The last finalized view, or 0.
+    pub(crate) fn last_finalized(&self) -> View
+        ensures { AtEach self.now (λ owner xs. result ≡ last_finalized (entries xs)) }
+    {
+        match self.places.finalizations.first_key_value() {
+            Some((last, _)) => last.0,
+            None => View::zero(),
+        }
+    }
+
+    /// The finalization that a rewrite makes the record begin with: that of the last finalized view, unless the
+    /// record begins behind it.
+    pub fn next_floor(&self) -> Option<&Finalization<S, D>>
+        ensures { AtEach self.now (λ owner xs. option_copied result ≡ next_floor xs) }
+    {
+        let last = self.last_finalized();
+        if self.standing.floor() >= last {
+            return None;
+        }
+        self.finalization(last)
+    }
+
+    /// What a rewrite leaves of it behind this finalization, of its last finalized view. All that it tells is
+    /// built anew of what is left, and nothing is verified again.
+    pub(crate) fn rewritten(
+        &self,
+        alloc: Global,
+        floor: &Finalization<S, D>,
+    ) -> Result<Self, AllocError>
+        ensures artifacts { IfOk result (λ left. AtEach self.now (λ owner xs. left.artifacts.items ≡ rewritten owner.term_length floor.now xs)) }
+        ensures holds { IfOk result (λ left.
+            (scheme : S) (owner : Owner) (xs : List (Artifact S D S.PublicKey S.Signature S.Certificate))
+            → HoldsRecord owner self.now xs
+            → IsLawful (S.attests scheme) (S.certifies scheme) owner xs
+            → Contains xs (artifact.Finalization floor.now)
+            → floor.now.proposal.round.view ≡ last_finalized (entries xs)
+            → HoldsRecord owner left (rewritten owner.term_length floor.now xs)) }
+    {
+        a_rewritten_record_is_lawful::<S, D>();
+        // The proof takes from the number that a term has at least one view.
+        let _views = self.term_length.get();
+        let artifacts = rewritten(alloc, self.term_length, floor, &self.artifacts)?;
+        let standing = standing_of(alloc, self.term_length, &artifacts)?;
+        let places = Places::of(alloc, &artifacts)?;
+        Ok(Recorded {
+            term_length: self.term_length,
+            artifacts,
+            standing,
+            places,
+        })
+    }
+
     /// The last own nullify that is recorded.
     pub fn last_nullify(&self) -> Option<&Nullify<S, D>>
         ensures { AtEach self.now (λ owner xs. MatchOption result (HasNoNullify xs) (λ v. IsLastNullifyOf xs v.now)) }
@@ -218,4 +272,21 @@ impl<S: Scheme<D>, D: Digest> Recorded<S, D> {
             None => None,
         }
     }
+}
+
+/// What is kept of artifacts of which each may stand behind those before it. Nothing is verified.
+fn standing_of<S: Scheme<D>, D: Digest>(
+    alloc: Global,
+    length: TermLength,
+    artifacts: &[Artifact<S, D>],
+) -> Result<Standing<D>, AllocError>
+    ensures { IfOk result (λ standing. EachMayFollow length artifacts.now → Keeps length standing (entries artifacts.now)) }
+{
+    let mut standing = Standing::new(alloc);
+    let mut rest = artifacts;
+    while let Some((artifact, behind)) = rest.split_first() {
+        standing.add(length, artifact)?;
+        rest = behind;
+    }
+    Ok(standing)
 }

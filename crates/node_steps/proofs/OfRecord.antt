@@ -24,6 +24,9 @@ never_early open_fault.Memory is told = told
 pub never_device : (why : OpenFault) → IsOfRecord why → why ≢ open_fault.Device
 never_device why told is = subst IsOfRecord is told
 
+pub never_memory : (why : OpenFault) → IsOfRecord why → why ≢ open_fault.Memory
+never_memory why told is = subst IsOfRecord is told
+
 pub never_late : (why : OpenFault) → (why ≡ open_fault.Memory) ⊎ (why ≡ open_fault.Device) → IsOfRecord why → ⊥
 never_late why is told = ⊎_elim (λ memory. subst IsOfRecord memory told) (λ device. subst IsOfRecord device told) is
 

@@ -7,13 +7,14 @@ use Rattle.std.proofs.lemmas.Bool.{false≢true}
 use Rattle.std.proofs.lemmas.Option.{same_Some}
 use Rattle.types_core.specs.declared.scheme.Scheme.{Ghosts}
 use Rattle.messages_certificates.specs.declared.artifact.Artifact.{Artifact}
+use Rattle.messages_certificates.specs.ProposalCertificate.{Finalization}
 use Rattle.types_terms.specs.declared.elector.Elector as elector
 use Rattle.journal_single.specs.declared.disk.Disk as disk
 use Rattle.journal_books.specs.declared.books.Books.{Books}
 use Rattle.journal_books.specs.declared.disks.Disks.{Disks}
 use Rattle.journal_books.specs.Books as words
-use Rattle.journal_books.specs.Books.{Leave, LeaveBook, LeaveSince, MayBeRead}
-use Rattle.journal_books.specs.BooksLaws.{book_then, book_weaker, since_leaves, since_then, since_weaker}
+use Rattle.journal_books.specs.Books.{Leave, LeaveBook, LeaveSince}
+use Rattle.journal_books.specs.BooksLaws.{book_then, book_weaker, since_leaves, since_then}
 use Rattle.simplex_member.specs.declared.action.Action.{Action}
 use Rattle.simplex_member.specs.declared.action.Reply.{Reply}
 use Rattle.simplex_member.specs.declared.event.Event.{Event}
@@ -26,7 +27,7 @@ use Rattle.simplex_member.specs.Member.{AreOpening, AreStep, Goes, IsOpened, IsP
 use Rattle.simplex_member.specs.First.{IsFirst}
 use Rattle.simplex_member.specs.Packet.{Formats}
 use Rattle.simplex_member.specs.Point.{Point, AreActs, Began, Opened, History}
-use Rattle.simplex_member.specs.Recorded.{record_of}
+use Rattle.simplex_member.specs.Recorded.{kept_of}
 use Rattle.simplex_member.specs.Refusals.{tests}
 use Rattle.simplex_member.specs.Setup.{Setup}
 use Rattle.node_core.specs.GoingThrough as reading
@@ -90,12 +91,12 @@ module _ {S D P G C : Type 0} (g : Ghosts S D P G C) (f : Formats S D P G C) (s 
 module _ {S L D P G C K : Type 0} (g : Ghosts S D P G C) (e : elector.Ghosts L S D P G C) (k : disk.Ghosts K) (f : Formats S D P G C) (s : Setup S D C) (h mid : History S D P G C) (event : Event D) where
   -- behind an event that was refused nothing is due
   pub refused_goes_on : (node : Core S L D K P G C) (refused : Option Refusal) (actions : Vec (Action S D P G C) Global) → IsSome refused → StepsAtOnce g f s h event (record { refused = refused; actions = actions }) mid → CoreKeeps g e k f s node mid
-      → (k.keeps → LeaveBook k (book_of node) (book_of node) (λ read. read ≡ map f.artifact (record_of mid)))
+      → (k.keeps → LeaveBook k (book_of node) (book_of node) (λ read. read ≡ map f.artifact (kept_of s.voter.length mid)))
       → GoesOn g e k f s node node h mid event (Ok (record { refused = refused; actions = actions }))
   refused_goes_on node None actions is steps keeps rests = absurd (false≢true is)
   refused_goes_on node (Some r) actions is steps keeps rests = record {
     ok = (h, (steps.0, (refl, steps.1.1)), subst (λ (m : History S D P G C). CoreKeeps g e k f s node m) steps.1.0 keeps);
-    any_moment = λ it. book_weaker k (λ read. read ≡ map f.artifact (record_of mid)) (IsReached g f s h event) (λ read is. inl (is ∙ ap (λ (m : History S D P G C). map f.artifact (record_of m)) steps.1.0)) (book_of node) (book_of node) (rests it);
+    any_moment = λ it. book_weaker k (λ read. read ≡ map f.artifact (kept_of s.voter.length mid)) (IsReached g f s h event) (λ read is. inl (is ∙ ap (λ (m : History S D P G C). map f.artifact (kept_of s.voter.length m)) steps.1.0)) (book_of node) (book_of node) (rests it);
   }
 
   module _ (old new : Core S L D K P G C) (refused : Option Refusal) (actions : Vec (Action S D P G C) Global) where
@@ -168,48 +169,49 @@ module _ {S D P G C : Type 0} (g : Ghosts S D P G C) (f : Formats S D P G C) (s 
     };
   }
 
-module _ {S L D P G C K : Type 0} (g : Ghosts S D P G C) (e : elector.Ghosts L S D P G C) (k : disk.Ghosts K) (f : Formats S D P G C) (s : Setup S D C) (Readable : Artifact S D P G C → Type 0) (on : Disks K) (now : ℕ) (node : Node S L D K P G C) (actions : List (Action S D P G C)) (open_is : IsOpen g e k f s Readable on now node actions) where
+module _ {S L D P G C K : Type 0} (g : Ghosts S D P G C) (e : elector.Ghosts L S D P G C) (k : disk.Ghosts K) (f : Formats S D P G C) (s : Setup S D C) (Readable : Artifact S D P G C → Type 0) (brought : Option (Finalization S D P G C)) (on : Disks K) (now : ℕ) (node : Node S L D K P G C) (actions : List (Action S D P G C)) (open_is : IsOpen g e k f s Readable brought on now node actions) where
   -- a node that is open settles
-  pub open_settled : (new : Core S L D K P G C) (after : List (Action S D P G C)) → ((h : History S D P G C) → CoreKeeps g e k f s node.core h → HasSettled g e k f s new h actions after) → IsOpenAndSettled g e k f s Readable on now (record node { core = new }) after
+  pub open_settled : (new : Core S L D K P G C) (after : List (Action S D P G C)) → ((h : History S D P G C) → CoreKeeps g e k f s node.core h → HasSettled g e k f s new h actions after) → IsOpenAndSettled g e k f s Readable brought on now (record node { core = new }) after
   open_settled new after settles =
       let settled = settles open_is.end open_is.keeps.core in
       record {
         found = open_is.found;
-        are_found = open_is.are_found;
+        founded = open_is.founded;
+        are = open_is.are;
         end = settled.end;
-        opens = opens_whole g f s now open_is.found actions open_is.end open_is.opens e k new after settled;
+        opens = opens_whole g f s now (open_is.found ++ open_is.founded) actions open_is.end open_is.opens e k new after settled;
         keeps = record { running = open_is.keeps.running; core = settled.keeps };
       }
 
   -- what may be read after a crash through both
-  pub left_open : (new : Core S L D K P G C) → LeaveSince k on (book_of node.core) (MayBeRead k on) → LeaveBook k (book_of node.core) (book_of new) (IsLeftByActs g f s open_is.end)
-      → Leave k on (words.disks_of (book_of new)) (MayBeLeftOpen g e k f s Readable on now)
-  left_open new one other = since_leaves k (MayBeLeftOpen g e k f s Readable on now) on (book_of new) (λ read before. inl before)
-      (since_then k (MayBeLeftOpen g e k f s Readable on now) on (book_of node.core) (book_of new)
-      (since_weaker k (MayBeRead k on) (MayBeLeftOpen g e k f s Readable on now) (λ read before. inl before) on (book_of node.core) one)
-      (book_weaker k (IsLeftByActs g f s open_is.end) (MayBeLeftOpen g e k f s Readable on now)
-      (λ read left. inr (open_is.found, open_is.are_found, opened_by_acts g f s now open_is.found actions open_is.end open_is.opens read left)) (book_of node.core) (book_of new) other))
+  pub left_open : (new : Core S L D K P G C) → LeaveSince k on (book_of node.core) (MayBeLeftOpen g e k f s Readable brought on now) → LeaveBook k (book_of node.core) (book_of new) (IsLeftByActs g f s open_is.end)
+      → Leave k on (words.disks_of (book_of new)) (MayBeLeftOpen g e k f s Readable brought on now)
+  left_open new one other = since_leaves k (MayBeLeftOpen g e k f s Readable brought on now) on (book_of new) (λ read before. inl before)
+      (since_then k (MayBeLeftOpen g e k f s Readable brought on now) on (book_of node.core) (book_of new)
+      one
+      (book_weaker k (IsLeftByActs g f s open_is.end) (MayBeLeftOpen g e k f s Readable brought on now)
+      (λ read left. inr (open_is.found, open_is.founded, open_is.are, opened_by_acts g f s now (open_is.found ++ open_is.founded) actions open_is.end open_is.opens read left)) (book_of node.core) (book_of new) other))
 
 -- the same of formats that are those of the committee's size
-pub settled_at_size : {S L D P G C K : Type 0} {g : Ghosts S D P G C} {e : elector.Ghosts L S D P G C} {k : disk.Ghosts K} {s : Setup S D C} {Readable : Artifact S D P G C → Type 0} {on : Disks K} {now : ℕ} {node : Node S L D K P G C} {new : Core S L D K P G C} {actions after : List (Action S D P G C)} {n size : ℕ} (f : ℕ → Formats S D P G C) → n ≡ size
-    → ((h : History S D P G C) → CoreKeeps g e k (f size) s node.core h → HasSettled g e k (f size) s new h actions after) → IsOpen g e k (f n) s Readable on now node actions → IsOpenAndSettled g e k (f n) s Readable on now (record node { core = new }) after
-settled_at_size {g = g} {e = e} {k = k} {s = s} {Readable = Readable} {on = on} {now = now} {node = node} {new = new} {actions = actions} {after = after} {n = n} {size = size} f is settles =
-    subst (λ (m : ℕ). IsOpen g e k (f m) s Readable on now node actions → IsOpenAndSettled g e k (f m) s Readable on now (record node { core = new }) after) (sym is)
-    (λ open_is. open_settled g e k (f size) s Readable on now node actions open_is new after settles)
+pub settled_at_size : {S L D P G C K : Type 0} {g : Ghosts S D P G C} {e : elector.Ghosts L S D P G C} {k : disk.Ghosts K} {s : Setup S D C} {Readable : Artifact S D P G C → Type 0} {brought : Option (Finalization S D P G C)} {on : Disks K} {now : ℕ} {node : Node S L D K P G C} {new : Core S L D K P G C} {actions after : List (Action S D P G C)} {n size : ℕ} (f : ℕ → Formats S D P G C) → n ≡ size
+    → ((h : History S D P G C) → CoreKeeps g e k (f size) s node.core h → HasSettled g e k (f size) s new h actions after) → IsOpen g e k (f n) s Readable brought on now node actions → IsOpenAndSettled g e k (f n) s Readable brought on now (record node { core = new }) after
+settled_at_size {g = g} {e = e} {k = k} {s = s} {Readable = Readable} {brought = brought} {on = on} {now = now} {node = node} {new = new} {actions = actions} {after = after} {n = n} {size = size} f is settles =
+    subst (λ (m : ℕ). IsOpen g e k (f m) s Readable brought on now node actions → IsOpenAndSettled g e k (f m) s Readable brought on now (record node { core = new }) after) (sym is)
+    (λ open_is. open_settled g e k (f size) s Readable brought on now node actions open_is new after settles)
 
 -- and what may be read
-pub left_at_size : {S L D P G C K : Type 0} {g : Ghosts S D P G C} {e : elector.Ghosts L S D P G C} {k : disk.Ghosts K} {s : Setup S D C} {Readable : Artifact S D P G C → Type 0} {on : Disks K} {now : ℕ} {node : Node S L D K P G C} {actions : List (Action S D P G C)} {n size : ℕ} (new : Core S L D K P G C) (f : ℕ → Formats S D P G C) → n ≡ size
-    → ((h : History S D P G C) → CoreKeeps g e k (f size) s node.core h → LeaveBook k (book_of node.core) (book_of new) (IsLeftByActs g (f size) s h)) → IsOpen g e k (f n) s Readable on now node actions
-    → LeaveSince k on (book_of node.core) (MayBeRead k on) → Leave k on (words.disks_of (book_of new)) (MayBeLeftOpen g e k (f n) s Readable on now)
-left_at_size {g = g} {e = e} {k = k} {s = s} {Readable = Readable} {on = on} {now = now} {node = node} {actions = actions} {n = n} {size = size} new f is leaves =
-    subst (λ (m : ℕ). IsOpen g e k (f m) s Readable on now node actions → LeaveSince k on (book_of node.core) (MayBeRead k on) → Leave k on (words.disks_of (book_of new)) (MayBeLeftOpen g e k (f m) s Readable on now)) (sym is)
-    (λ open_is one. left_open g e k (f size) s Readable on now node actions open_is new one (leaves open_is.end open_is.keeps.core))
+pub left_at_size : {S L D P G C K : Type 0} {g : Ghosts S D P G C} {e : elector.Ghosts L S D P G C} {k : disk.Ghosts K} {s : Setup S D C} {Readable : Artifact S D P G C → Type 0} {brought : Option (Finalization S D P G C)} {on : Disks K} {now : ℕ} {node : Node S L D K P G C} {actions : List (Action S D P G C)} {n size : ℕ} (new : Core S L D K P G C) (f : ℕ → Formats S D P G C) → n ≡ size
+    → ((h : History S D P G C) → CoreKeeps g e k (f size) s node.core h → LeaveBook k (book_of node.core) (book_of new) (IsLeftByActs g (f size) s h)) → IsOpen g e k (f n) s Readable brought on now node actions
+    → LeaveSince k on (book_of node.core) (MayBeLeftOpen g e k (f n) s Readable brought on now) → Leave k on (words.disks_of (book_of new)) (MayBeLeftOpen g e k (f n) s Readable brought on now)
+left_at_size {g = g} {e = e} {k = k} {s = s} {Readable = Readable} {brought = brought} {on = on} {now = now} {node = node} {actions = actions} {n = n} {size = size} new f is leaves =
+    subst (λ (m : ℕ). IsOpen g e k (f m) s Readable brought on now node actions → LeaveSince k on (book_of node.core) (MayBeLeftOpen g e k (f m) s Readable brought on now) → Leave k on (words.disks_of (book_of new)) (MayBeLeftOpen g e k (f m) s Readable brought on now)) (sym is)
+    (λ open_is one. left_open g e k (f size) s Readable brought on now node actions open_is new one (leaves open_is.end open_is.keeps.core))
 
 -- an index that the scheme has is the one that it has
-pub left_at_index : {S L D P G C K : Type 0} (g : Ghosts S D P G C) (e : elector.Ghosts L S D P G C) (k : disk.Ghosts K) (f : Formats S D P G C) (Readable : Artifact S D P G C → Type 0) (now : ℕ) {own : Option ℕ} {me index : ℕ}
-    (setup : ℕ → Setup S D C) (on back : Disks K) → own ≡ Some me → own ≡ Some index → Leave k on back (MayBeLeftOpen g e k f (setup me) Readable on now) → Leave k on back (MayBeLeftOpen g e k f (setup index) Readable on now)
-left_at_index g e k f Readable now {me = me} {index = index} setup on back is same leaves =
-    subst (λ (i : ℕ). Leave k on back (MayBeLeftOpen g e k f (setup i) Readable on now)) (same_Some me index (sym is ∙ same)) leaves
+pub left_at_index : {S L D P G C K : Type 0} (g : Ghosts S D P G C) (e : elector.Ghosts L S D P G C) (k : disk.Ghosts K) (f : Formats S D P G C) (Readable : Artifact S D P G C → Type 0) (brought : Option (Finalization S D P G C)) (now : ℕ) {own : Option ℕ} {me index : ℕ}
+    (setup : ℕ → Setup S D C) (on back : Disks K) → own ≡ Some me → own ≡ Some index → Leave k on back (MayBeLeftOpen g e k f (setup me) Readable brought on now) → Leave k on back (MayBeLeftOpen g e k f (setup index) Readable brought on now)
+left_at_index g e k f Readable brought now {me = me} {index = index} setup on back is same leaves =
+    subst (λ (i : ℕ). Leave k on back (MayBeLeftOpen g e k f (setup i) Readable brought on now)) (same_Some me index (sym is ∙ same)) leaves
 
 -- disks that are the same are left the same
 pub left_back : {K : Type 0} (k : disk.Ghosts K) (P : List (List ℕ) → Type 0) (on back other : Disks K) → back ≡ other → Leave k on other P → Leave k on back P

@@ -1,3 +1,4 @@
 pub mod Keeps
 pub mod Opening
 pub mod Stepping
+pub mod Rewriting

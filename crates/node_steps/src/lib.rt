@@ -4,6 +4,7 @@
 mod answering;
 mod node;
 mod opening;
+mod rewriting;
 mod stepping;
 
 pub use node::Node;

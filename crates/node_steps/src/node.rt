@@ -4,7 +4,7 @@ ghost use Rattle.std.specs.Prelude.{◌≡◌, ℕ, List, true, false};
 ghost use Rattle.journal_books.specs.declared.disks.Disks.TheVariants.{One, Two};
 ghost use Rattle.journal_books.specs.Books.{MayBeRead, are_two};
 ghost use Rattle.simplex_member.specs.Layers.{current_of, finalized_of};
-ghost use Rattle.simplex_member.specs.Member.{ReadsAs};
+ghost use Rattle.simplex_member.specs.Member.{ReadsAsKept};
 ghost use Rattle.node_steps.specs.Keeps.{AtAll, AtOwn, disks_of, has_failed};
 
 use journal_books::Disks;
@@ -57,7 +57,7 @@ impl<S: Scheme<D> + Drop, L: Elector<S, D>, D: Digest, K: Disk> Node<S, L, D, K>
         requires { are_two (disks_of self) ≡ false }
         ensures disk { disks_of self ≡ One result }
         ensures left { AtOwn S.Scheme L.Elector K.Disk ⟦<S as Speaks<D>>⟧.formats self
-            (λ f s h. K.keeps → (read : List (List ℕ)) → MayBeRead K.Disk (One result) read → ReadsAs S.Scheme f s read h) }
+            (λ f s h. K.keeps → (read : List (List ℕ)) → MayBeRead K.Disk (One result) read → ReadsAsKept S.Scheme f s read h) }
     {
         self.into_disks().one()
     }
@@ -67,7 +67,7 @@ impl<S: Scheme<D> + Drop, L: Elector<S, D>, D: Digest, K: Disk> Node<S, L, D, K>
         requires { are_two (disks_of self) ≡ true }
         ensures disks { disks_of self ≡ Two result.0 result.1 }
         ensures left { AtOwn S.Scheme L.Elector K.Disk ⟦<S as Speaks<D>>⟧.formats self
-            (λ f s h. K.keeps → (read : List (List ℕ)) → MayBeRead K.Disk (Two result.0 result.1) read → ReadsAs S.Scheme f s read h) }
+            (λ f s h. K.keeps → (read : List (List ℕ)) → MayBeRead K.Disk (Two result.0 result.1) read → ReadsAsKept S.Scheme f s read h) }
     {
         self.into_disks().two()
     }
@@ -76,7 +76,7 @@ impl<S: Scheme<D> + Drop, L: Elector<S, D>, D: Digest, K: Disk> Node<S, L, D, K>
     pub fn into_disks(self) -> Disks<K>
         ensures disks { result ≡ disks_of self }
         ensures left { AtOwn S.Scheme L.Elector K.Disk ⟦<S as Speaks<D>>⟧.formats self
-            (λ f s h. K.keeps → (read : List (List ℕ)) → MayBeRead K.Disk result read → ReadsAs S.Scheme f s read h) }
+            (λ f s h. K.keeps → (read : List (List ℕ)) → MayBeRead K.Disk result read → ReadsAsKept S.Scheme f s read h) }
     {
         a_ledger_at_rest_leaves_its_record::<S, D, K>();
         let core = self.core;

@@ -1,16 +1,21 @@
 //! Opening a record.
 
-ghost use Rattle.std.specs.Prelude.{◌≡◌, ◌≢◌, ◌<◌, ◌↔◌, ◌⊎◌, ℕ, IsTrue, [], None, Some, IfOk, IfErr, IfSome, OnOk, false, true, max, unwrap_or};
+ghost use Rattle.std.specs.Prelude.{◌≡◌, ◌≢◌, ◌<◌, ◌≤◌, ◌↔◌, ◌⊎◌, ℕ, IsTrue, [], Option, None, Some, IfOk, IfErr, IfSome, OnOk, false, true, max, unwrap_or};
 ghost use Rattle.messages_certificates.specs.Artifact.{artifact_spelling};
+ghost use Rattle.messages_certificates.specs.ProposalCertificate.{Finalization};
+ghost use Rattle.voter_rules.specs.declared.floor.FloorFault.{FloorFault};
+ghost use Rattle.voter_rules.specs.Floor.{AppliesToFloor};
 ghost use Rattle.journal_books.specs.declared.disks.Disks.{Disks};
 ghost use Rattle.journal_books.specs.declared.disks.Disks.TheVariants.{One, Two};
-ghost use Rattle.journal_books.specs.Books.{AreLeftAsTheyWere, HasFailed, HasNotFailed, IsForeignOn, Leave, LeaveSince, MayBeRead, are_two};
+ghost use Rattle.journal_books.specs.Books.{AreLeftAsTheyWere, HasFailed, HasNotFailed, IsForeignOn, Leave, LeaveSince, are_two};
 ghost use Rattle.node_record.specs.Ledger as ledgers;
-ghost use Rattle.node_record.specs.Ledger.{IsContradiction, OpensOver};
+ghost use Rattle.node_record.specs.Founding.{OpensFrom};
+ghost use Rattle.node_record.specs.Ledger.{IsContradiction};
 ghost use Rattle.simplex_member.specs.declared.fault.NodeFault.TheVariants as step_fault;
 ghost use Rattle.simplex_member.specs.declared.fault.OpenFault.TheVariants as open_fault;
 ghost use Rattle.simplex_member.specs.First.{IsFirst};
-ghost use Rattle.simplex_member.specs.Setup.{Setup, IsInTime, owner_of, setup_of, silence_of};
+ghost use Rattle.simplex_member.specs.Packet.{IsRecordable};
+ghost use Rattle.simplex_member.specs.Setup.{Setup, IsInTime, brought_by, owner_of, setup_of, silence_of};
 ghost use Rattle.node_core.specs.SettingUp.{EndsActs, IsSetUp};
 ghost use Rattle.node_steps.specs.Keeps.{book_of, disks_of};
 ghost use Rattle.node_steps.specs.Opening.{HasOpened, IsOfRecord, IsOpen, IsOpenAndSettled, IsUnopened, MayBeLeftOpen, MayGoThrough, early, open_tests};
@@ -22,19 +27,28 @@ use messages_certificates::Artifact;
 use node_core::{Core, Layers, Settings};
 use node_due::settle;
 use node_record::Ledger;
-use simplex_member::{Action, NodeFault, OpenFault, Speaks};
+use simplex_member::{
+    Action, NodeFault, OpenFault, SetupFault, Speaks, lawful_records_are_opened,
+    packets_are_read_back,
+};
 use simplex_record::Owner;
 use std::alloc::Global;
 use std::rc::Rc;
 use types_core::{Digest, Participant, Scheme, Write};
 use types_terms::{Elector, Terms};
 use voter_rules::config::{Config, SkipPolicy, check_config};
+use voter_rules::{Floor, check_floor};
 
 /// How many views of a term may be optimistic: a step goes over each of them.
 pub const MOST_OPTIMISTIC: u64 = 1_000;
 
 impl<S: Scheme<D> + Drop, L: Elector<S, D>, D: Digest, K: Disk> Node<S, L, D, K> {
     /// Opens a member's record at a moment, in milliseconds: the node behind all that it says, and its first actions.
+    ///
+    /// Where the configuration has it start from a finalization, and that lies above all that is final in the record, it is recorded
+    /// behind that before anything else: so a member joins late, by a finalization that somebody verified. It is reported and its
+    /// proposal handed out as final, like what the record said, and sent to nobody. One that doesn't lie above is ignored. Behind a
+    /// finalization that it starts from the node builds nothing on view 0, of which it knows no payload.
     ///
     /// # Errors
     ///
@@ -43,7 +57,7 @@ impl<S: Scheme<D> + Drop, L: Elector<S, D>, D: Digest, K: Disk> Node<S, L, D, K>
     /// [`OpenFault::Memory`]. With the disk.
     pub fn open(
         alloc: Global,
-        config: Config<D>,
+        config: Config<Floor<S, D>>,
         scheme: Rc<S>,
         elector: L,
         disk: K,
@@ -55,7 +69,7 @@ impl<S: Scheme<D> + Drop, L: Elector<S, D>, D: Digest, K: Disk> Node<S, L, D, K>
         ensures opened { IfOk result (λ r.
             (index : ℕ) × (S.own scheme.value ≡ Some index) × IsOpenAndSettled S.Scheme L.Elector K.Disk
             (⟦<S as Speaks<D>>⟧.formats (S.size scheme.value)) (setup_of S.Scheme L.Elector config scheme.value elector index)
-            ⟦<S as Speaks<D>>⟧.readable (One disk) now r.0 r.1.items) }
+            ⟦<S as Speaks<D>>⟧.readable (brought_by config.floor) (One disk) now r.0 r.1.items) }
 
         // Each fault is told for its cause, a record that is refused is left as it was, and a crash meanwhile leaves no other.
         ensures has_opened { IfOk result (λ r.
@@ -82,7 +96,7 @@ impl<S: Scheme<D> + Drop, L: Elector<S, D>, D: Digest, K: Disk> Node<S, L, D, K>
     /// Those of [`Node::open`], with both disks.
     pub fn open_pair(
         alloc: Global,
-        config: Config<D>,
+        config: Config<Floor<S, D>>,
         scheme: Rc<S>,
         elector: L,
         first: K,
@@ -93,7 +107,7 @@ impl<S: Scheme<D> + Drop, L: Elector<S, D>, D: Digest, K: Disk> Node<S, L, D, K>
         ensures opened { IfOk result (λ r.
             (index : ℕ) × (S.own scheme.value ≡ Some index) × IsOpenAndSettled S.Scheme L.Elector K.Disk
             (⟦<S as Speaks<D>>⟧.formats (S.size scheme.value)) (setup_of S.Scheme L.Elector config scheme.value elector index)
-            ⟦<S as Speaks<D>>⟧.readable (Two first second) now r.0 r.1.items) }
+            ⟦<S as Speaks<D>>⟧.readable (brought_by config.floor) (Two first second) now r.0 r.1.items) }
         ensures has_opened { IfOk result (λ r.
             HasOpened S.Scheme L.Elector K.Disk (⟦<S as Speaks<D>>⟧.formats (S.size scheme.value))
             (setup_of S.Scheme L.Elector config scheme.value elector) ⟦<S as Speaks<D>>⟧.readable config scheme.value (Two first second) now
@@ -123,7 +137,7 @@ impl<S: Scheme<D> + Drop, L: Elector<S, D>, D: Digest, K: Disk> Node<S, L, D, K>
     /// Opens a member's record over one disk or two.
     fn open_on(
         alloc: Global,
-        config: Config<D>,
+        config: Config<Floor<S, D>>,
         scheme: Rc<S>,
         elector: L,
         disks: Disks<K>,
@@ -135,7 +149,7 @@ impl<S: Scheme<D> + Drop, L: Elector<S, D>, D: Digest, K: Disk> Node<S, L, D, K>
         ensures opened { IfOk result (λ r.
             (index : ℕ) × (S.own scheme.value ≡ Some index) × IsOpenAndSettled S.Scheme L.Elector K.Disk
             (⟦<S as Speaks<D>>⟧.formats (S.size scheme.value)) (setup_of S.Scheme L.Elector config scheme.value elector index)
-            ⟦<S as Speaks<D>>⟧.readable disks now r.0 r.1.items) }
+            ⟦<S as Speaks<D>>⟧.readable (brought_by config.floor) disks now r.0 r.1.items) }
 
         // What is wrong with the arguments is told first, the first that applies, and no disk was touched.
         ensures early { IfErr result (λ r.
@@ -172,22 +186,31 @@ impl<S: Scheme<D> + Drop, L: Elector<S, D>, D: Digest, K: Disk> Node<S, L, D, K>
             → K.keeps
             → Leave K.Disk disks (disks_of r.0) (MayBeLeftOpen S.Scheme L.Elector K.Disk
             (⟦<S as Speaks<D>>⟧.formats (S.size scheme.value)) (setup_of S.Scheme L.Elector config scheme.value elector index)
-            ⟦<S as Speaks<D>>⟧.readable disks now)) }
+            ⟦<S as Speaks<D>>⟧.readable (brought_by config.floor) disks now)) }
         ensures any_moment_of_a_fault { IfErr result (λ r.
             (index : ℕ)
             → S.own scheme.value ≡ Some index
             → K.keeps
             → Leave K.Disk disks r.1 (MayBeLeftOpen S.Scheme L.Elector K.Disk
             (⟦<S as Speaks<D>>⟧.formats (S.size scheme.value)) (setup_of S.Scheme L.Elector config scheme.value elector index)
-            ⟦<S as Speaks<D>>⟧.readable disks now)) }
+            ⟦<S as Speaks<D>>⟧.readable (brought_by config.floor) disks now)) }
     {
         disks_read_as_one_record::<K>();
+        packets_are_read_back::<S, D>();
+        lawful_records_are_opened::<S, D>();
         let me = match member_of(&config, &*scheme, &elector, now) {
             Ok(me) => me,
             Err(fault) => return Err((fault, disks)),
         };
         let settings = settings_of(alloc, &config, scheme, &elector, me);
-        match Ledger::open(alloc, &*settings.scheme, settings.owner, disks) {
+        let opened = Ledger::open_from(
+            alloc,
+            &*settings.scheme,
+            settings.owner,
+            &config.floor,
+            disks,
+        );
+        match opened {
             Ok(ledger) => match open_over(settings, &config, elector, ledger, now) {
                 Ok((node, actions)) => begin(node, actions),
                 Err(refused) => Err(refused),
@@ -200,21 +223,21 @@ impl<S: Scheme<D> + Drop, L: Elector<S, D>, D: Digest, K: Disk> Node<S, L, D, K>
 /// The node over a record that was opened, behind all that it says; or the disks, where memory ran out.
 fn open_over<S: Scheme<D> + Drop, L: Elector<S, D>, D: Digest, K: Disk>(
     settings: Settings<S>,
-    config: &Config<D>,
+    config: &Config<Floor<S, D>>,
     elector: L,
     ledger: Ledger<S, D, K>,
     now: u64,
 ) -> Result<(Node<S, L, D, K>, Vec<Action<S, D>>), (OpenFault, Disks<K>)>
     requires built_for { L.built_for elector (S.size settings.scheme.value) }
     requires ready { (index : ℕ) × MayGoThrough S.Scheme K.Disk (artifact_spelling D.spelling S.Signature.spelling S.Certificate.spelling)
-        ⟦<S as Speaks<D>>⟧.readable (setup_of S.Scheme L.Elector config.now settings.scheme.value elector index) settings ledger now }
+        (setup_of S.Scheme L.Elector config.now settings.scheme.value elector index) settings ledger now }
     ensures opened { IfOk result (λ r.
-        (on : Disks K) (n index : ℕ)
+        (brought : Option (Finalization S D S.PublicKey S.Signature S.Certificate)) (on : Disks K) (n index : ℕ)
         → let s = setup_of S.Scheme L.Elector config.now settings.scheme.value elector index in IsSetUp s settings
         → IsInTime s now
-        → OpensOver K.Disk (artifact_spelling D.spelling S.Signature.spelling S.Certificate.spelling) ⟦<S as Speaks<D>>⟧.readable
-        (S.attests s.voter.scheme) (S.certifies s.voter.scheme) (owner_of s) on ledger
-        → IsOpen S.Scheme L.Elector K.Disk (⟦<S as Speaks<D>>⟧.formats n) s ⟦<S as Speaks<D>>⟧.readable on now r.0 r.1.items) }
+        → OpensFrom K.Disk (artifact_spelling D.spelling S.Signature.spelling S.Certificate.spelling) ⟦<S as Speaks<D>>⟧.readable
+        (IsRecordable (⟦<S as Speaks<D>>⟧.formats n)) (S.attests s.voter.scheme) (S.certifies s.voter.scheme) (owner_of s) brought on ledger
+        → IsOpen S.Scheme L.Elector K.Disk (⟦<S as Speaks<D>>⟧.formats n) s ⟦<S as Speaks<D>>⟧.readable brought on now r.0 r.1.items) }
     ensures book { IfOk result (λ r. book_of r.0 ≡ ledgers.book_of ledger) }
     ensures memory { IfErr result (λ r. (r.0 ≡ open_fault.Memory) × (r.1 ≡ ledgers.disks_of ledger)) }
 {
@@ -230,29 +253,29 @@ fn begin<S: Scheme<D> + Drop, L: Elector<S, D>, D: Digest, K: Disk>(
     actions: Vec<Action<S, D>>,
 ) -> Result<(Node<S, L, D, K>, Vec<Action<S, D>>), (OpenFault, Disks<K>)>
     ensures opened { IfOk result (λ r.
-        (n : ℕ) (s : Setup S D S.Certificate) (on : Disks K) (now : ℕ)
+        (n : ℕ) (s : Setup S D S.Certificate) (brought : Option (Finalization S D S.PublicKey S.Signature S.Certificate)) (on : Disks K) (now : ℕ)
         → n ≡ S.size s.voter.scheme
-        → let f = ⟦<S as Speaks<D>>⟧.formats n in IsOpen S.Scheme L.Elector K.Disk f s ⟦<S as Speaks<D>>⟧.readable on now node actions.items
-        → IsOpenAndSettled S.Scheme L.Elector K.Disk f s ⟦<S as Speaks<D>>⟧.readable on now r.0 r.1.items) }
+        → let f = ⟦<S as Speaks<D>>⟧.formats n in IsOpen S.Scheme L.Elector K.Disk f s ⟦<S as Speaks<D>>⟧.readable brought on now node actions.items
+        → IsOpenAndSettled S.Scheme L.Elector K.Disk f s ⟦<S as Speaks<D>>⟧.readable brought on now r.0 r.1.items) }
     ensures memory { IfErr result (λ r. (r.0 ≡ open_fault.Memory) ⊎ (r.0 ≡ open_fault.Device)) }
     ensures device { IfErr result (λ r. r.0 ≡ open_fault.Device → HasFailed K.Disk (disks_of node) r.1) }
     ensures no_device { IfErr result (λ r. r.0 ≢ open_fault.Device → HasNotFailed K.Disk (disks_of node) r.1) }
     ensures no_fault { IfOk result (λ r. HasNotFailed K.Disk (disks_of node) (disks_of r.0)) }
     // What may be read after a crash since before the record was opened.
     ensures any_moment { IfOk result (λ r.
-        (n : ℕ) (s : Setup S D S.Certificate) (on : Disks K) (now : ℕ)
+        (n : ℕ) (s : Setup S D S.Certificate) (brought : Option (Finalization S D S.PublicKey S.Signature S.Certificate)) (on : Disks K) (now : ℕ)
         → n ≡ S.size s.voter.scheme
-        → let f = ⟦<S as Speaks<D>>⟧.formats n in IsOpen S.Scheme L.Elector K.Disk f s ⟦<S as Speaks<D>>⟧.readable on now node actions.items
+        → let f = ⟦<S as Speaks<D>>⟧.formats n in IsOpen S.Scheme L.Elector K.Disk f s ⟦<S as Speaks<D>>⟧.readable brought on now node actions.items
         → K.keeps
-        → LeaveSince K.Disk on (book_of node) (MayBeRead K.Disk on)
-        → Leave K.Disk on (disks_of r.0) (MayBeLeftOpen S.Scheme L.Elector K.Disk f s ⟦<S as Speaks<D>>⟧.readable on now)) }
+        → LeaveSince K.Disk on (book_of node) (MayBeLeftOpen S.Scheme L.Elector K.Disk f s ⟦<S as Speaks<D>>⟧.readable brought on now)
+        → Leave K.Disk on (disks_of r.0) (MayBeLeftOpen S.Scheme L.Elector K.Disk f s ⟦<S as Speaks<D>>⟧.readable brought on now)) }
     ensures any_moment_of_a_fault { IfErr result (λ r.
-        (n : ℕ) (s : Setup S D S.Certificate) (on : Disks K) (now : ℕ)
+        (n : ℕ) (s : Setup S D S.Certificate) (brought : Option (Finalization S D S.PublicKey S.Signature S.Certificate)) (on : Disks K) (now : ℕ)
         → n ≡ S.size s.voter.scheme
-        → let f = ⟦<S as Speaks<D>>⟧.formats n in IsOpen S.Scheme L.Elector K.Disk f s ⟦<S as Speaks<D>>⟧.readable on now node actions.items
+        → let f = ⟦<S as Speaks<D>>⟧.formats n in IsOpen S.Scheme L.Elector K.Disk f s ⟦<S as Speaks<D>>⟧.readable brought on now node actions.items
         → K.keeps
-        → LeaveSince K.Disk on (book_of node) (MayBeRead K.Disk on)
-        → Leave K.Disk on r.1 (MayBeLeftOpen S.Scheme L.Elector K.Disk f s ⟦<S as Speaks<D>>⟧.readable on now)) }
+        → LeaveSince K.Disk on (book_of node) (MayBeLeftOpen S.Scheme L.Elector K.Disk f s ⟦<S as Speaks<D>>⟧.readable brought on now)
+        → Leave K.Disk on r.1 (MayBeLeftOpen S.Scheme L.Elector K.Disk f s ⟦<S as Speaks<D>>⟧.readable brought on now)) }
 {
     let mut node = node;
     let mut actions = actions;
@@ -311,7 +334,7 @@ fn node_of<S: Scheme<D> + Drop, L: Elector<S, D>, D: Digest, K: Disk>(
 /// The first of [`OpenFault::NoKey`], [`OpenFault::Config`], [`OpenFault::MomentTooLate`] and [`OpenFault::TooManyOptimistic`] that
 /// applies.
 fn member_of<S: Scheme<D>, L: Elector<S, D>, D: Digest>(
-    config: &Config<D>,
+    config: &Config<Floor<S, D>>,
     scheme: &S,
     elector: &L,
     now: u64,
@@ -322,6 +345,9 @@ fn member_of<S: Scheme<D>, L: Elector<S, D>, D: Digest>(
     ensures fault { IfErr result
         (λ why. IsFirst (open_tests S.Scheme (setup_of S.Scheme L.Elector config.now scheme.now elector.now 0) config.now now) (Some why)) }
     ensures early { IfErr result (λ why. early why ≡ Some why) }
+    ensures sound { OnOk result (let s = setup_of S.Scheme L.Elector config.now scheme.now elector.now 0 in
+        (fault : FloorFault) → ¬ AppliesToFloor (S.certifies scheme.now) s.voter.length s.voter.epoch config.now.floor fault) }
+    ensures few { OnOk result (S.size scheme.now ≤ 65535) }
     ensures ends { IfOk result (λ me.
         L.built_for elector.now (S.size scheme.now) → EndsActs (setup_of S.Scheme L.Elector config.now scheme.now elector.now me)) }
 {
@@ -330,17 +356,21 @@ fn member_of<S: Scheme<D>, L: Elector<S, D>, D: Digest>(
     };
     match check_config(config, scheme.participants()) {
         Ok(()) => {}
-        Err(fault) => return Err(OpenFault::Config(fault)),
+        Err(fault) => return Err(OpenFault::Config(SetupFault::Config(fault))),
     }
     let terms = elector.terms();
+    // The proof takes from their length, too, that terms have views.
+    let length = terms.length();
+    match check_floor(&config.floor, config.epoch, scheme, length) {
+        Ok(()) => {}
+        Err(fault) => return Err(OpenFault::Config(SetupFault::Floor(fault))),
+    }
     if longest_timeout(config, &terms) > u64::MAX - now {
         return Err(OpenFault::MomentTooLate);
     }
     if has_many_optimistic(&terms) {
         return Err(OpenFault::TooManyOptimistic);
     }
-    // The proof takes from their length that terms have views.
-    let _length = terms.length();
     Ok(me)
 }
 
@@ -354,7 +384,7 @@ fn has_many_optimistic(terms: &Terms) -> bool
 /// What stays the same through an opening by this member.
 fn settings_of<S: Scheme<D>, L: Elector<S, D>, D: Digest>(
     alloc: Global,
-    config: &Config<D>,
+    config: &Config<Floor<S, D>>,
     scheme: Rc<S>,
     elector: &L,
     me: Participant,
@@ -380,7 +410,7 @@ fn settings_of<S: Scheme<D>, L: Elector<S, D>, D: Digest>(
 }
 
 /// The longest of all times of a configuration and of the terms.
-fn longest_timeout<D: Digest>(config: &Config<D>, terms: &Terms) -> u64
+fn longest_timeout<F>(config: &Config<F>, terms: &Terms) -> u64
     ensures { result ≡ max config.now.leader_timeout (max config.now.certification_timeout
         (max config.now.timeout_retry (max (unwrap_or terms.now.stall_timeout 0) (unwrap_or (silence_of config.now.skip) 0)))) }
 {

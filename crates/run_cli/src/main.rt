@@ -3,16 +3,17 @@
 //!
 //! | Line | Answer |
 //! |---|---|
-//! | `reset` | `ok`: an input without bytes, streams that move all at once and never fail, an empty disk |
+//! | `reset` | `ok`: an input without bytes, streams that move all at once and never fail, two empty disks |
 //! | `append TIMES HEX` | how many bytes the input has with these behind it, so many times |
 //! | `reader SIZE ROOM FAULT`, `output ..`, `faults ..` | `ok`: such is the stream of each call from here on |
 //! | `audit COUNT` | `STATUS LEFT OUTPUT FAULTS` of `audit_over` |
 //! | `run WORD ..` | the same of the program with these words |
 //! | `tool WORD ..` | the same of the program of tools; the input is the file that the words name, too |
 //! | `write COUNT` | what `write_audit` answers, then `LEFT OUTPUT` |
-//! | `serve INDEX COUNT` | `STATUS LEFT OUTPUT FAULTS` of a node's program over the disk; the output in digits |
-//! | `disk BYTES`, `fuse CALLS`, `fail_at CALLS` | `ok`: such a disk; behind so many calls all or one of it fail |
-//! | `bytes` | what the disk holds |
+//! | `serve INDEX COUNT` | `STATUS LEFT OUTPUT FAULTS` of a node's program over the disks; the output in digits |
+//! | `disk BYTES`, `disk BYTES BYTES` | `ok`: one such disk, or two |
+//! | `fuse CALLS`, `fail_at CALLS` | `ok`: behind so many calls all or one of the disk fail; of two, DISK stands before CALLS, 1 or 2 |
+//! | `bytes` | what the disk holds, or each of two |
 //! | `report OUTCOME`, `unread KIND` | `STATUS FAULTS` of `report`, and of `words_unread` after such an error |
 //! | `parse WORD ..` | `audit COUNT`, `node PATH INDEX COUNT`, or `-` |
 //! | `number WORD` | the number, or `-` |

@@ -1,21 +1,22 @@
-//! The disk of a script, and a node's program over it.
+//! The disks of a script, one or two, and a node's program over them.
 
 use crate::streams::{Streams, count, short};
+use journal_books::Disks;
 use journal_single::MemoryDisk;
 use std::alloc::Global;
 use test_words::{Say, Trouble, Words};
 
-/// The disk, which a node has while its program runs.
+/// The disks, which a node has while its program runs.
 #[derive(Drop)]
 pub(crate) struct Medium {
-    disk: Option<MemoryDisk>,
+    disks: Option<Disks<MemoryDisk>>,
 }
 
 impl Medium {
-    /// An empty disk.
+    /// Two empty disks.
     pub(crate) fn new(alloc: Global) -> Self {
         Medium {
-            disk: Some(MemoryDisk::new(alloc)),
+            disks: Some(Disks::Two(MemoryDisk::new(alloc), MemoryDisk::new(alloc))),
         }
     }
 
@@ -31,14 +32,14 @@ impl Medium {
         if index >= count {
             return Err(Trouble::Condition);
         }
-        let Some(disk) = self.disk.take() else {
+        let Some(disks) = self.disks.take() else {
             return Err(Trouble::Condition);
         };
-        self.disk = Some(streams.serve(disk, index, count, say)?);
+        self.disks = Some(streams.serve(disks, index, count, say)?);
         Ok(())
     }
 
-    /// The call on the disk of this name.
+    /// The call on the disks of this name.
     pub(crate) fn call(
         &mut self,
         name: &str,
@@ -52,30 +53,48 @@ impl Medium {
         }
     }
 
-    /// `disk BYTES`.
+    /// `disk BYTES`, `disk BYTES BYTES`.
     fn put(&mut self, words: &mut Words<'_>, say: &mut Say) -> Result<(), Trouble> {
-        let bytes = words.bytes(say.alloc)?;
+        let first = words.bytes(say.alloc)?;
+        let first = MemoryDisk::with(say.alloc, &first)?;
+        if !words.more() {
+            self.disks = Some(Disks::One(first));
+            return say.ok();
+        }
+        let second = words.bytes(say.alloc)?;
         words.end()?;
-        self.disk = Some(MemoryDisk::with(say.alloc, &bytes)?);
+        let second = MemoryDisk::with(say.alloc, &second)?;
+        self.disks = Some(Disks::Two(first, second));
         say.ok()
     }
 
     /// `bytes`.
     fn bytes(&self, words: &Words<'_>, say: &mut Say) -> Result<(), Trouble> {
         words.end()?;
-        match &self.disk {
-            Some(disk) => say.bytes(disk.bytes()),
+        match &self.disks {
+            Some(Disks::One(disk)) => say.bytes(disk.bytes()),
+            Some(Disks::Two(first, second)) => {
+                say.bytes(first.bytes())?;
+                say.gap()?;
+                say.bytes(second.bytes())
+            }
             None => Err(Trouble::Condition),
         }
     }
 
-    /// `fuse CALLS`, `fail_at CALLS`: of this name.
+    /// `fuse CALLS`, `fail_at CALLS`: of this name. Of two disks the first word names one.
     fn fail(&mut self, name: &str, words: &mut Words<'_>, say: &mut Say) -> Result<(), Trouble> {
+        let disk = match &mut self.disks {
+            Some(Disks::One(disk)) => disk,
+            Some(Disks::Two(first, second)) => match words.number()? {
+                1 => first,
+                2 => second,
+                _ => return Err(Trouble::Unreadable),
+            },
+            None => return Err(Trouble::Condition),
+        };
         let calls = words.number()?;
         words.end()?;
-        let Some(disk) = &mut self.disk else {
-            return Err(Trouble::Condition);
-        };
         if name == "fuse" {
             disk.fuse(calls);
         } else {

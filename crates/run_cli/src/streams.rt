@@ -6,6 +6,7 @@ use crate::commands;
 use crate::fakes::{FakeReader, FakeWriter, Manner, kind_of};
 use cli_audit::{audit_over, report, run_words, words_unread, write_audit};
 use cli_tool::{misused, parse_call, run_request};
+use journal_books::Disks;
 use journal_single::MemoryDisk;
 use node_wire::{CountedReader, CountedWriter};
 use simplex_cli::{drive, tell};
@@ -118,20 +119,20 @@ impl Streams {
         say_all(status, &input, &output, &faults, say)
     }
 
-    /// A node's program over a disk, which it hands back.
+    /// A node's program over disks, which it hands back.
     pub(crate) fn serve(
         &self,
-        disk: MemoryDisk,
+        disks: Disks<MemoryDisk>,
         index: u16,
         count: u16,
         say: &mut Say,
-    ) -> Result<MemoryDisk, Trouble>
+    ) -> Result<Disks<MemoryDisk>, Trouble>
         requires { index < count }
     {
         let mut input = CountedReader::new(self.read());
         let mut output = CountedWriter::new(FakeWriter::new(say.alloc, self.output));
         let mut faults = FakeWriter::new(say.alloc, self.faults);
-        let (ended, disk) = drive(say.alloc, disk, index, count, &mut input, &mut output);
+        let (ended, disks) = drive(say.alloc, disks, index, count, &mut input, &mut output);
         let status = tell(say.alloc, ended, &mut faults);
         say.number(u64::from(status))?;
         say.gap()?;
@@ -142,7 +143,7 @@ impl Streams {
         say.bytes(output.taken())?;
         say.gap()?;
         say.quoted(faults.taken())?;
-        Ok(disk)
+        Ok(disks)
     }
 
     /// `write COUNT`.

@@ -13,6 +13,7 @@ use std::rc::Rc;
 use test_node::{Life, Medium, Member, Seat, Setup, Told, Turns, play_on};
 use test_words::Committee;
 use types_core::{Digest, Scheme, Sha256Digest, View};
+use voter_rules::Floor;
 use voter_rules::config::Config;
 
 /// A node of the product, whatever its scheme, whoever leads, and on whatever disk: at one of each the calls would cost the prover
@@ -21,7 +22,7 @@ use voter_rules::config::Config;
 struct NodeSeat;
 
 impl<S: Scheme<D> + Drop, L: Turns<S, D>, D: Digest, K: Disk> Seat<
-    Config<D>,
+    Config<Floor<S, D>>,
     S,
     K,
     Node<S, L, D, K>,
@@ -34,7 +35,7 @@ impl<S: Scheme<D> + Drop, L: Turns<S, D>, D: Digest, K: Disk> Seat<
     fn open(
         alloc: Global,
         setup: &Setup,
-        config: Config<D>,
+        config: Config<Floor<S, D>>,
         scheme: Rc<S>,
         disk: K,
         now: u64,
@@ -48,7 +49,7 @@ impl<S: Scheme<D> + Drop, L: Turns<S, D>, D: Digest, K: Disk> Seat<
     fn open_pair(
         alloc: Global,
         setup: &Setup,
-        config: Config<D>,
+        config: Config<Floor<S, D>>,
         scheme: Rc<S>,
         first: K,
         second: K,
@@ -62,6 +63,10 @@ impl<S: Scheme<D> + Drop, L: Turns<S, D>, D: Digest, K: Disk> Seat<
 
     fn step(node: &mut Node<S, L, D, K>, event: Event<D>) -> Result<Reply<S, D>, NodeFault> {
         node.step(event)
+    }
+
+    fn rewrite(node: &mut Node<S, L, D, K>) -> Result<Option<View>, NodeFault> {
+        node.rewrite()
     }
 
     fn run(
@@ -80,7 +85,7 @@ impl<S: Scheme<D> + Drop, L: Turns<S, D>, D: Digest, K: Disk> Seat<
     fn live(
         alloc: Global,
         setup: &Setup,
-        lives: Vec<Life<Config<D>, S, Event<D>>>,
+        lives: Vec<Life<Config<Floor<S, D>>, S, Event<D>>>,
         disk: K,
     ) -> Result<(Vec<Answered<S, D>>, K), K> {
         let Ok(openings) = openings::<S, L, D>(alloc, setup, lives) else {
@@ -128,7 +133,7 @@ impl<S: Scheme<D> + Drop, L: Turns<S, D>, D: Digest, K: Disk> Seat<
 fn openings<S: Scheme<D> + Drop, L: Turns<S, D>, D: Digest>(
     alloc: Global,
     setup: &Setup,
-    lives: Vec<Life<Config<D>, S, Event<D>>>,
+    lives: Vec<Life<Config<Floor<S, D>>, S, Event<D>>>,
 ) -> Result<Vec<Opening<S, L, D>>, AllocError>
     ensures { IfOk result (λ r. All (λ o. L.built_for o.elector (S.size o.scheme.value)) r.items) }
 {
@@ -143,7 +148,7 @@ fn openings<S: Scheme<D> + Drop, L: Turns<S, D>, D: Digest>(
 fn opening_of<S: Scheme<D> + Drop, L: Turns<S, D>, D: Digest>(
     alloc: Global,
     setup: &Setup,
-    life: Life<Config<D>, S, Event<D>>,
+    life: Life<Config<Floor<S, D>>, S, Event<D>>,
 ) -> Result<Opening<S, L, D>, AllocError>
     ensures { IfOk result (λ o. L.built_for o.elector (S.size o.scheme.value)) }
 {

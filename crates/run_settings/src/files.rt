@@ -3,7 +3,7 @@
 ghost use Rattle.cli_settings.specs.Checking.{IsGood};
 
 use crate::light::{chain, one};
-use crate::member::member_of;
+use crate::member::{member_of, pair_of};
 use cli_file::{path_behind, read_file, tell_settings};
 use cli_settings::Settings;
 use cli_toml::MemberFile;
@@ -99,6 +99,17 @@ impl Files {
         };
         match file.settings.check() {
             Ok(()) => member_of(&file.settings, words, say),
+            Err(_) => Err(Trouble::Condition),
+        }
+    }
+
+    /// `pair CUTS DISK DISK EVENTS`.
+    pub(crate) fn pair(&mut self, words: &mut Words<'_>, say: &mut Say) -> Result<(), Trouble> {
+        let Some(file) = &self.file else {
+            return Err(Trouble::Condition);
+        };
+        match file.settings.check() {
+            Ok(()) => pair_of(&file.settings, words, say),
             Err(_) => Err(Trouble::Condition),
         }
     }

@@ -10,6 +10,7 @@
 //! | `settings` | `STATUS OUTPUT FAULTS` of telling what it says; then it is what was told |
 //! | `ask NAME WORD ..` | the path that the words name behind NAME, or `-` |
 //! | `member CUTS DISK EVENTS` | `STATUS REPLIES FAULTS DISK` of the member of the file over a disk of these bytes; the first word is 1 to cut |
+//! | `pair CUTS DISK DISK EVENTS` | `STATUS REPLIES FAULTS DISK DISK` of the same over two disks |
 //! | `certifies BYTES` | what these bytes certify for the members of the file, or why nothing |
 //! | `chain BYTES` | the proposals that these certificates make final, or `PLACE WHY` of the first that breaks the chain |
 //!
@@ -43,6 +44,7 @@ impl Layer for Files {
             "settings" => self.settings(words, say),
             "ask" => files::ask(words, say),
             "member" => self.member(words, say),
+            "pair" => self.pair(words, say),
             _ => self.light(name, words, say),
         }
     }

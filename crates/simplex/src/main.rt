@@ -1,13 +1,15 @@
-//! `simplex audit COUNT` and `simplex node RECORD INDEX COUNT`: hands the program's words and streams to the libraries, and has a
-//! record's file looked at before it is opened.
+//! `simplex audit COUNT` and `simplex node RECORD INDEX COUNT`: hands the program's words and streams to the libraries, and has the
+//! two files of a record looked at before they are opened.
 #![tactic(auto)]
 
 ghost use Rattle.std.specs.Prelude.{◌<◌};
 
-use cli_opening::{HELP, VERSION, look_over, say_found};
-use cli_record::{hold_streams, left, record_at, unopened};
+use cli_opening::{HELP, VERSION, look_over_half, say_found};
+use cli_record::{hold_streams, left, record_at, second_path, unopened, written_into_either};
+use journal_single::FileDisk;
 use simplex_cli::{Command, Trouble, node_over, parse_words, report, run_words, words_unread};
-use simplex_node::{CountedReader, CountedWriter};
+use simplex_node::{CountedReader, CountedWriter, Disks};
+use std::io::Write;
 use std::process::ExitCode;
 use std::{env, io};
 use types_codec::write_whole;
@@ -21,8 +23,37 @@ fn words(rt: &HostRuntime) -> io::Result<Vec<String>> {
     Ok(words)
 }
 
-/// Runs the member of this index, of so many, over the record in the file at this path, and answers the status. Where `cuts`, all that
-/// stands behind the record's last whole entry is cut; else no more than a crash leaves.
+/// One of the two disks of a record, in the file at this path, of which is said what was found. What can't be of this member's record,
+/// and where not `cuts` also what a crash doesn't leave, stays as it is.
+///
+/// # Errors
+///
+/// The status, with words of why on `faults`.
+fn half_at<F: Write>(
+    rt: &HostRuntime,
+    path: &str,
+    index: u16,
+    count: u16,
+    cuts: bool,
+    faults: &mut F,
+) -> Result<FileDisk, u8>
+    requires { index < count }
+{
+    let mut disk = match record_at(rt.alloc(), rt, path, faults) {
+        Ok(disk) => disk,
+        Err(status) => return Err(status),
+    };
+    match look_over_half(rt.alloc(), &mut disk, index, count, cuts) {
+        Ok(found) => {
+            say_found(rt.alloc(), path, found, faults);
+            Ok(disk)
+        }
+        Err(barred) => Err(left(rt.alloc(), path, ASKED, barred, faults)),
+    }
+}
+
+/// Runs the member of this index, of so many, over the record in the files at this path and behind it, and answers the status. Where
+/// `cuts`, all that stands behind the record's last whole entry is cut; else no more than a crash leaves.
 fn run_node(rt: &HostRuntime, path: &str, index: u16, count: u16, cuts: bool) -> u8
     requires { index < count }
 {
@@ -32,19 +63,26 @@ fn run_node(rt: &HostRuntime, path: &str, index: u16, count: u16, cuts: bool) ->
         Ok(held) => held,
         Err(error) => return unopened(rt.alloc(), path, &error, &mut faults),
     };
-    let mut disk = match record_at(rt.alloc(), rt, path, &mut faults) {
+    let Ok(other) = second_path(rt.alloc(), path) else {
+        return report(Err(Trouble::Memory), &mut faults);
+    };
+    // What is told of one file mustn't be written into the other.
+    if let Some(status) = written_into_either(rt.alloc(), rt, path, other.as_str(), &mut faults) {
+        return status;
+    }
+    let first = match half_at(rt, path, index, count, cuts, &mut faults) {
         Ok(disk) => disk,
         Err(status) => return status,
     };
-    match look_over(rt.alloc(), &mut disk, index, count, cuts) {
-        Ok(found) => say_found(rt.alloc(), path, found, &mut faults),
-        Err(barred) => return left(rt.alloc(), path, ASKED, barred, &mut faults),
-    }
+    let second = match half_at(rt, other.as_str(), index, count, cuts, &mut faults) {
+        Ok(disk) => disk,
+        Err(status) => return status,
+    };
     let mut input = CountedReader::new(rt.stdin());
     let mut output = CountedWriter::new(rt.stdout());
     node_over(
         rt.alloc(),
-        disk,
+        Disks::Two(first, second),
         index,
         count,
         &mut input,

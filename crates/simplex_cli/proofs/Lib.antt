@@ -1,3 +1,4 @@
-mod Served
-mod Statuses
-mod Streams
+pub mod Left
+pub mod Served
+pub mod Statuses
+pub mod Streams

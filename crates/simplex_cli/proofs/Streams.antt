@@ -1,13 +1,13 @@
 -- What a program tells of its streams, by what a run over them does.
 use Rattle.std.proofs.Common.{◌≡◌, ◌≢◌, ◌⊎◌, inl, inr, ℕ, refl, sym, ap, ◌∙◌, subst}
-use Rattle.std.specs.Prelude.{Result, Ok, Err, false}
+use Rattle.std.specs.Prelude.{Result, Ok, Err, false, true}
 use Rattle.journal_single.specs.Disk.{counted}
 use Rattle.simplex_member.specs.declared.fault.IoFault.{IoFault}
 use Rattle.simplex_member.specs.declared.fault.IoFault.TheVariants as fault
 use Rattle.simplex_member.specs.declared.fault.OpenFault.{OpenFault}
 use Rattle.simplex_cli.specs.declared.ending.Ending.{Ending}
 use Rattle.simplex_cli.specs.declared.ending.Ending.TheVariants as ending
-use Rattle.simplex_cli.specs.Serving.{AreTold, ended_of}
+use Rattle.simplex_cli.specs.Serving.{AreTold, EndsAs, ended_of}
 
 module _ {A : Type 0} where
   -- a failed write is told of nothing else
@@ -29,6 +29,18 @@ module _ {A : Type 0} where
     write_failed = λ is. failed (failed_write io is);
     write = λ other. written (λ is. other (ap ended_of is));
     flushed = λ other. flushed (λ is. other (ap ended_of is));
+  }
+
+  -- so where the record was rewritten behind that
+  pub told_so : (io : Result A IoFault) (ended : Result A Ending) (read_before read_now written_before written_now : ℕ) (Was Is : Type 0) → EndsAs io true ended
+      → AreTold (ended_of io) read_before read_now written_before written_now Was Is → AreTold ended read_before read_now written_before written_now Was Is
+  told_so (Err why) ended read_before read_now written_before written_now Was Is so told = subst (λ (r : Result A Ending). AreTold r read_before read_now written_before written_now Was Is) (sym so) told
+  told_so (Ok done) ended read_before read_now written_before written_now Was Is (inl so) told = subst (λ (r : Result A Ending). AreTold r read_before read_now written_before written_now Was Is) (sym so) told
+  told_so (Ok done) ended read_before read_now written_before written_now Was Is (inr (why, so)) told = record {
+    read = λ other. told.read (λ bad. absurd cc);
+    write_failed = λ is. absurd (let bad = sym so ∙ is in cc);
+    write = λ other. told.write (λ bad. absurd cc);
+    flushed = λ other. told.flushed (λ bad. absurd cc);
   }
 
   -- behind a first reply that was written and flushed

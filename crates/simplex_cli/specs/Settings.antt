@@ -1,20 +1,23 @@
 -- How the program sets up a committee and a member's node.
 use Rattle.std.specs.Prelude.{ℕ, List, Some, codes, replicate, true}
 use Rattle.simplex_types.specs.Plain.{Committee}
+use Rattle.types_core.specs.declared.attestation.Attestation.{Attestation}
 use Rattle.types_terms.specs.Rotation.{Rotation, indices}
 use Rattle.types_terms.specs.Terms.{stable}
 use Rattle.voter_rules.specs.declared.config.Config.{Config}
 use Rattle.voter_rules.specs.declared.config.ForwardPolicy.TheVariants as forward
 use Rattle.voter_rules.specs.declared.config.SkipBudget.TheVariants as budget
 use Rattle.voter_rules.specs.declared.config.SkipPolicy.TheVariants as skip
+use Rattle.voter_rules.specs.declared.floor.Floor.{Floor}
+use Rattle.voter_rules.specs.declared.floor.Floor.TheVariants as floor
 
 -- the settings, with all times in milliseconds: epoch 0 from a payload of zeros; a second for a leader, two for a verdict, five until a
 -- nullify is repeated; ten views are kept below the last finalized one; a leader that was silent for eight seconds is skipped, in as many
 -- terms as there are members; nothing is forwarded, and each vote is kept until its view is dropped
-abbrev pub program_config : Config (List ℕ)
+abbrev pub program_config : Config (Floor Committee (List ℕ) ℕ (List ℕ) (List (Attestation (List ℕ))))
 program_config = record {
   epoch = 0;
-  floor = replicate 32 0;
+  floor = floor.Genesis (replicate 32 0);
   leader_timeout = 1000;
   certification_timeout = 2000;
   timeout_retry = 5000;

@@ -1,8 +1,8 @@
-//! A node over a disk and streams, as the program sets it up.
+//! A node over one disk or two and over streams, as the program sets it up.
 
 ghost use Rattle.std.specs.Prelude.{◌≡◌, ◌⊎◌, ◌<◌, false, IfErr, Result, ⊤};
 ghost use Rattle.journal_single.specs.Disk.{counted};
-ghost use Rattle.journal_books.specs.declared.disks.Disks.TheVariants.{One};
+ghost use Rattle.journal_books.specs.declared.disks.Disks.{Disks};
 ghost use Rattle.simplex_member.specs.Setup.{setup_of};
 ghost use Rattle.node_wire.specs.Streaming.{spelled};
 ghost use Rattle.simplex_cli.specs.declared.ending.Ending.{Ending};
@@ -18,18 +18,20 @@ use crate::telling::tell;
 use journal_single::Disk;
 use node_wire::{Sink, Source};
 use simplex_member::Speaks;
+use simplex_node::Disks;
 use simplex_types::{AttestationList, PlainKey, PlainScheme, PlainSignature};
 use std::alloc::Global;
 use std::io::Write as Writes;
 use types_core::{Read, Scheme, Sha256Digest, Write};
 use types_terms::elector::{Elector, RoundRobinElector};
 
-/// Runs the member of this index, of so many, over a disk: opens its record at moment 0, writes what the opening hands out as a
-/// reply, then answers the events of `input` on `output`. Answers the status: 0 at the end of the input between two events, 3 where
-/// a place was named at which none stands, and 1 where something failed, each but 0 with a line on `faults`.
+/// Runs the member of this index, of so many, over one disk or two: opens its record at moment 0, writes what the opening hands out
+/// as a reply, then answers the events of `input` on `output`. At the end of the input between two events the record of two disks is
+/// rewritten. Answers the status: 0 at that end, 3 where a place was named at which no event stands, and 1 where something failed, each
+/// but 0 with a line on `faults`.
 pub fn node_over<K: Disk, R: Source, W: Sink, F: Writes>(
     alloc: Global,
-    disk: K,
+    disks: Disks<K>,
     index: u16,
     count: u16,
     input: &mut R,
@@ -41,7 +43,7 @@ pub fn node_over<K: Disk, R: Source, W: Sink, F: Writes>(
     ensures silent { result ≡ 0 → faults.new ≡ faults.old }
 
     // How it ended gives the status and the line, and says what was read and written.
-    ensures comes_to { (ended : Result ⊤ Ending) × (result ≡ status_of ended) × IfErr ended (λ why.
+    ensures comes_to { (ended : Result ⊤ Ending) × (left : Disks K) × (result ≡ status_of ended) × IfErr ended (λ why.
         AppendsFront (F.contents faults.old) (F.contents faults.new) (ending_line why) ⊎ AppendsFront (F.contents faults.old)
         (F.contents faults.new) memory_line) × AreTold ended (R.failed input.old) (R.failed input.new) (W.failed output.old)
         (W.failed output.new) (W.is_flushed output.old) (W.is_flushed output.new) ×
@@ -50,23 +52,23 @@ pub fn node_over<K: Disk, R: Source, W: Sink, F: Writes>(
         (program_committee index count) (program_rotation count) index) ⟦<Sha256Digest as Write>⟧.fits ⟦<Sha256Digest as Write>⟧.spelling
         (spelled ⟦<PlainKey as Write>⟧.spelling ⟦<Sha256Digest as Write>⟧.spelling ⟦<PlainSignature as Write>⟧.spelling
         ⟦<AttestationList<PlainSignature> as Write>⟧.spelling) (⟦<Sha256Digest as Read>⟧.reading 65535)
-        ⟦<PlainScheme as Speaks<Sha256Digest>>⟧.readable (One disk) 0 (R.failed input.new ≡ counted false (R.failed input.old))
+        ⟦<PlainScheme as Speaks<Sha256Digest>>⟧.readable disks left 0 (R.failed input.new ≡ counted false (R.failed input.old))
         (output.new ≡ output.old) ended (R.remaining input.old) (W.contents output.old) (W.contents output.new) }
 {
-    let (ended, disk) = drive(alloc, disk, index, count, input, output);
-    drop(disk);
+    let (ended, disks) = drive(alloc, disks, index, count, input, output);
+    drop(disks);
     tell(alloc, ended, faults)
 }
 
-/// The same without a word of how it ended, which it hands back with the disk.
+/// The same without a word of how it ended, which it hands back with the disks.
 pub fn drive<K: Disk, R: Source, W: Sink>(
     alloc: Global,
-    disk: K,
+    disks: Disks<K>,
     index: u16,
     count: u16,
     input: &mut R,
     output: &mut W,
-) -> (Result<(), Ending>, K)
+) -> (Result<(), Ending>, Disks<K>)
     requires { index < count }
     ensures streams { AreTold result.0 (R.failed input.old) (R.failed input.new) (W.failed output.old) (W.failed output.new)
         (W.is_flushed output.old) (W.is_flushed output.new) }
@@ -75,14 +77,14 @@ pub fn drive<K: Disk, R: Source, W: Sink>(
         (program_committee index count) (program_rotation count) index) ⟦<Sha256Digest as Write>⟧.fits ⟦<Sha256Digest as Write>⟧.spelling
         (spelled ⟦<PlainKey as Write>⟧.spelling ⟦<Sha256Digest as Write>⟧.spelling ⟦<PlainSignature as Write>⟧.spelling
         ⟦<AttestationList<PlainSignature> as Write>⟧.spelling) (⟦<Sha256Digest as Read>⟧.reading 65535)
-        ⟦<PlainScheme as Speaks<Sha256Digest>>⟧.readable (One disk) 0 (R.failed input.new ≡ counted false (R.failed input.old))
+        ⟦<PlainScheme as Speaks<Sha256Digest>>⟧.readable disks result.1 0 (R.failed input.new ≡ counted false (R.failed input.old))
         (output.new ≡ output.old) result.0 (R.remaining input.old) (W.contents output.old) (W.contents output.new) }
 {
     let Ok(scheme) = scheme(alloc, index, count) else {
-        return (Err(Ending::Memory), disk);
+        return (Err(Ending::Memory), disks);
     };
     let Ok(elector) = elector(alloc, count) else {
-        return (Err(Ending::Memory), disk);
+        return (Err(Ending::Memory), disks);
     };
-    serve_over(alloc, config(), scheme, elector, disk, 0, input, output)
+    serve_over(alloc, config(), scheme, elector, disks, 0, input, output)
 }

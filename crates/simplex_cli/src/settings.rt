@@ -8,18 +8,19 @@ use std::alloc::{AllocError, Global};
 use std::rc::Rc;
 use types_core::{Epoch, Participant, Sha256Digest, TermLength, ViewDelta};
 use types_terms::elector::{Config as Building, Elector, RoundRobin, RoundRobinElector};
+use voter_rules::Floor;
 use voter_rules::config::{Config, ForwardPolicy, SkipBudget, SkipPolicy};
 
 /// The base of the namespaces that the program's committees sign in.
 const BASE: &[u8; 7] = b"simplex";
 
 /// The node's settings. All times are in milliseconds.
-pub fn config() -> Config<Sha256Digest>
+pub fn config() -> Config<Floor<PlainScheme, Sha256Digest>>
     ensures { result ≡ program_config }
 {
     Config {
         epoch: Epoch::new(0),
-        floor: Sha256Digest::new([0; 32]),
+        floor: Floor::Genesis(Sha256Digest::new([0; 32])),
         leader_timeout: 1_000,
         certification_timeout: 2_000,
         timeout_retry: 5_000,

@@ -17,7 +17,7 @@ use Rattle.simplex_member.proofs.Kept.{kept-floor, kept-floor-final}
 use Rattle.simplex_member.proofs.Recordable.{matches}
 
 module _ {S D P G C : Type 0} (g : Ghosts S D P G C) (f : Formats S D P G C) (s : Setup S D C) (law : EachHistoryMatches S D P G C) where
-  current-above : (q : Point S D P G C) (h : History S D P G C) → AreAllowed g f s (q ∷ h) → finalized_of s (q ∷ h) < current_of s (q ∷ h)
+  pub current-above : (q : Point S D P G C) (h : History S D P G C) → AreAllowed g f s (q ∷ h) → finalized_of s (q ∷ h) < current_of s (q ∷ h)
   current-above q h all =
       let m = matches g f s law q h all in
       let behind = final-behind s.voter.length (entries (record_of (q ∷ h))) in

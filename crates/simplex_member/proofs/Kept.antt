@@ -31,7 +31,6 @@ use Rattle.simplex_member.specs.Setup.{Setup}
 use Rattle.simplex_member.proofs.Lists.{Contains-mapped, put-before, put-cases, put-here, some-is}
 use Rattle.simplex_member.proofs.Recordable.{matches}
 use Rattle.simplex_member.proofs.Rising.{all-rise}
-use Rattle.simplex_member.proofs.Telling.{apart}
 
 -- ---- lists
 
@@ -188,10 +187,10 @@ module _ {S D P G C : Type 0} (g : Ghosts S D P G C) (f : Formats S D P G C) (s 
   abbrev kept : History S D P G C → List (Artifact S D P G C)
   kept h = kept_of s.voter.length h
 
-  rewrote-kept : (p : Point S D P G C) (h : History S D P G C) (c : Finalization S D P G C) → p ≡ Rewrote c → kept (p ∷ h) ≡ rewritten s.voter.length c (kept h)
+  pub rewrote-kept : (p : Point S D P G C) (h : History S D P G C) (c : Finalization S D P G C) → p ≡ Rewrote c → kept (p ∷ h) ≡ rewritten s.voter.length c (kept h)
   rewrote-kept p h c is = ap (λ (q : Point S D P G C). kept (q ∷ h)) is
 
-  may-rewrite : (p : Point S D P G C) (h : History S D P G C) (c : Finalization S D P G C) → p ≡ Rewrote c → Allowed g f s h p → MayRewrite g f s h c
+  pub may-rewrite : (p : Point S D P G C) (h : History S D P G C) (c : Finalization S D P G C) → p ≡ Rewrote c → Allowed g f s h p → MayRewrite g f s h c
   may-rewrite p h c is a = let b : Allowed g f s h (Rewrote c) = subst (λ (q : Point S D P G C). Allowed g f s h q) is a in b.due
 
   -- what is kept was recorded
@@ -221,14 +220,6 @@ module _ {S D P G C : Type 0} (g : Ghosts S D P G C) (f : Formats S D P G C) (s 
       let before = put-nothing (kept h) (recorded_by p) put_none in
       let recorded = kept-nothing h before in
       ap (λ (l : List (Artifact S D P G C)). put_behind l (recorded_by p)) (recorded ∙ sym before) ∙ put_none)
-      (ways-of p)
-
-  -- where nothing may be rewritten all is kept
-  pub all-kept : (h : History S D P G C) → AreAllowed g f s h → s.rewrites ≡ false → kept h ≡ record_of h
-  all-kept [] all never = refl
-  all-kept (p ∷ h) all never = ⊎_elim
-      (λ rewrote. absurd (apart (sym never ∙ (may-rewrite p h rewrote.0 rewrote.1 all.0).able)))
-      (λ puts. puts s.voter.length (kept h) ∙ ap (λ (l : List (Artifact S D P G C)). put_behind l (recorded_by p)) (all-kept h all.1 never))
       (ways-of p)
 
   -- what is kept is of no lower last finalized view

@@ -67,3 +67,5 @@ mod Low
 mod Floored
 mod Three
 mod Above
+mod Stands
+mod Based

@@ -201,7 +201,6 @@ module _ {S D P G C : Type 0} (g : Ghosts S D P G C) (f : Formats S D P G C) (s 
 
   -- the record may be rewritten so that it begins with this finalization, where terms have views
   pub record MayRewrite (h : History S D P G C) (c : Finalization S D P G C) : Type 0 where
-    pub able : s.rewrites ≡ true
     pub terms : 0 < s.voter.length
     pub next : next_floor (kept_of s.voter.length h) ≡ Some c
 

@@ -1,6 +1,6 @@
 -- Records that begin at a floor, and are rewritten: what follows from the member model, as statements. Each is proved where a function
 -- without a body has it as a clause (`laws.rt`).
-use Rattle.std.specs.Prelude.{◌≡◌, ◌<◌, ◌≤◌, ◌++◌, ℕ, Bool, false, List, [], ◌∷◌, Contains, Some}
+use Rattle.std.specs.Prelude.{◌≡◌, ◌≢◌, ◌<◌, ◌≤◌, ◌++◌, ℕ, Bool, List, [], ◌∷◌, Contains, Some}
 use Rattle.types_core.specs.declared.scheme.Scheme.{Ghosts}
 use Rattle.messages_certificates.specs.declared.artifact.Artifact.{Artifact}
 use Rattle.messages_certificates.specs.declared.artifact.Artifact.TheVariants as artifact
@@ -11,19 +11,21 @@ use Rattle.simplex_messages.specs.VoteParts.{vote_round}
 use Rattle.simplex_record.specs.Record.{current_view, entries, entry, floor, last_finalized}
 use Rattle.simplex_record.specs.Rules.{reach}
 use Rattle.simplex_record.specs.Kept.{StandsForAll}
-use Rattle.simplex_record.specs.Lawful.{IsEverLawful, rewritten}
+use Rattle.simplex_record.specs.Lawful.{Fits, IsEverLawful, IsLawful, rewritten}
 use Rattle.simplex_member.specs.Allowed.{Allowed, AreAllowed, VoteIsDue}
 use Rattle.simplex_member.specs.declared.event.Event.TheVariants as event
 use Rattle.simplex_member.specs.declared.refusal.Refusal.TheVariants as refusal
 use Rattle.simplex_member.specs.Deeds.{deeds_of}
 use Rattle.simplex_member.specs.First.{IsFirst}
+use Rattle.simplex_member.specs.Laws.{IsExact}
 use Rattle.simplex_member.specs.Layers.{current_of, finalized_of}
 use Rattle.simplex_member.specs.Lives.{Life, Lives}
+use Rattle.simplex_member.specs.Member.{AreOpening, Goes, NoneDue}
 use Rattle.simplex_member.specs.Packet.{Formats}
-use Rattle.simplex_member.specs.Point.{Rewrote, History}
-use Rattle.simplex_member.specs.Recorded.{kept_of, record_of}
+use Rattle.simplex_member.specs.Point.{Point, Rewrote, History}
+use Rattle.simplex_member.specs.Recorded.{kept_of, record_of, recorded_by}
 use Rattle.simplex_member.specs.Refusals.{tests}
-use Rattle.simplex_member.specs.Setup.{Setup, owner_of}
+use Rattle.simplex_member.specs.Setup.{Setup, IsInTime, owner_of}
 
 module _ {S D P G C : Type 0} (g : Ghosts S D P G C) (f : Formats S D P G C) (s : Setup S D C) where
   -- ---- of one opening
@@ -60,14 +62,44 @@ module _ {S D P G C : Type 0} (g : Ghosts S D P G C) (f : Formats S D P G C) (s 
   abbrev pub KeptTellsAll : Type 0
   KeptTellsAll = (h : History S D P G C) → AreAllowed g f s h → TellsAll h
 
-  -- where nothing may be rewritten all is kept
-  abbrev pub AllIsKept : Type 0
-  AllIsKept = (h : History S D P G C) → AreAllowed g f s h → s.rewrites ≡ false → kept_of s.voter.length h ≡ record_of h
+  -- what is kept stands for all of that: it was recorded, all that reaches above the view behind which it begins is there, and both are of
+  -- one current view and one last finalized view
+  abbrev pub KeptStandsForAll : Type 0
+  KeptStandsForAll = (h : History S D P G C) → AreAllowed g f s h → StandsForAll s.voter.length (entries (record_of h)) (entries (kept_of s.voter.length h))
+
+  -- what is kept is of the voter's current view and of its last finalized one, which lies below that
+  pub record IsOfViews (h : History S D P G C) : Type 0 where
+    pub current : current_of s h ≡ current_view s.voter.length (entries (kept_of s.voter.length h))
+    pub final : finalized_of s h ≡ last_finalized (entries (kept_of s.voter.length h))
+    pub ahead : finalized_of s h < current_of s h
+
+  abbrev pub KeptIsOfViews : Type 0
+  KeptIsOfViews = (h : History S D P G C) → AreAllowed g f s h → h ≢ [] → IsOfViews h
+
+  -- what is kept is a lawful record
+  abbrev pub KeptIsLawful : Type 0
+  KeptIsLawful = (h : History S D P G C) → AreAllowed g f s h → IsLawful (g.attests s.voter.scheme) (g.certifies s.voter.scheme) (owner_of s) (kept_of s.voter.length h)
+
+  -- what a point records may stand behind what is kept
+  abbrev pub NextFitsKept : Type 0
+  NextFitsKept = (h : History S D P G C) (p : Point S D P G C) (x : Artifact S D P G C) → AreAllowed g f s (p ∷ h) → recorded_by p ≡ Some x
+      → Fits (g.attests s.voter.scheme) (g.certifies s.voter.scheme) (owner_of s) (kept_of s.voter.length h) x
+
+  -- where nothing is due, nothing is due behind a rewrite
+  abbrev pub RewritesLeaveNothingDue : Type 0
+  RewritesLeaveNothingDue = (h : History S D P G C) (c : Finalization S D P G C) → NoneDue g f s h → NoneDue g f s (Rewrote c ∷ h)
 
   -- no vote is due of a view at or below that behind which the record begins, be it since the last rewrite
   abbrev pub NoneIsDueBelow : Type 0
   NoneIsDueBelow = (h : History S D P G C) (v : Vote S D P G C) → AreAllowed g f s h → VoteIsDue g f s h v
       → floor (entries (kept_of s.voter.length h)) < (vote_round v).view
+
+  -- a lawful record is opened at any moment that lies early enough: an opening goes through all of it, and leaves it as it was
+  abbrev pub LawfulIsOpened : Type 0
+  LawfulIsOpened = (now : ℕ) (found : List (Artifact S D P G C)) → IsExact f → IsInTime s now
+      → IsLawful (g.attests s.voter.scheme) (g.certifies s.voter.scheme) (owner_of s) found
+      → (points : List (Point S D P G C)) × (end : History S D P G C) × AreOpening g f s now found points × Goes g f s [] points end
+      × (kept_of s.voter.length end ≡ found)
 
   -- ---- of lives
 

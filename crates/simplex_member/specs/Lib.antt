@@ -1,6 +1,7 @@
 pub mod First
 pub mod Packet
 pub mod Setup
+pub mod Faults
 pub mod Point
 pub mod Recorded
 pub mod Layers

@@ -30,7 +30,7 @@ use Rattle.simplex_member.specs.Layers.{current_of, known_of, latest, stage, vot
 use Rattle.simplex_member.specs.Packet.{Formats, Packet, of_vote, of_certificate, of_ask}
 use Rattle.simplex_record.specs.Record.{entries, last_finalized}
 use Rattle.simplex_member.specs.Point.{Point, Opened, Found, Began, Told, Heard, Came, Wanted, Built, Checked, Judged, Rewrote, AreActs, History}
-use Rattle.simplex_member.specs.Recorded.{kept_of, record_of}
+use Rattle.simplex_member.specs.Recorded.{kept_of}
 use Rattle.simplex_member.specs.Refusals.{tests, refused_deeds}
 use Rattle.simplex_member.specs.Setup.{Setup, member_of}
 
@@ -207,15 +207,11 @@ module _ {S D P G C : Type 0} (g : Ghosts S D P G C) (f : Formats S D P G C) (s 
   abbrev pub IsRewriting : History S D P G C → Finalization S D P G C → List (List ℕ) → Type 0
   IsRewriting h c read = ReadsAsKept read h ⊎ (IsRewritten h c × ReadsAsKept read (Rewrote c ∷ h))
 
-  -- the same of a history in which nothing is rewritten, so that all is kept
-  abbrev pub ReadsAs : List (List ℕ) → History S D P G C → Type 0
-  ReadsAs read h = read ≡ map f.artifact (record_of h)
-
   -- what is read is what a step over this event may leave: the record before it, or that at a point of it
   abbrev pub IsReached : History S D P G C → Event D → List (List ℕ) → Type 0
-  IsReached h e read = ReadsAs read h
-      ⊎ ((points : List (Point S D P G C)) × (end : History S D P G C) × AreStep h e points × Goes h points end × ReadsAs read end)
+  IsReached h e read = ReadsAsKept read h
+      ⊎ ((points : List (Point S D P G C)) × (end : History S D P G C) × AreStep h e points × Goes h points end × ReadsAsKept read end)
 
   -- what is read is what an opening that found these may leave: the record at a point of it, once it went through what was found
   abbrev pub IsOpened : ℕ → List (Artifact S D P G C) → List (List ℕ) → Type 0
-  IsOpened now found read = (points : List (Point S D P G C)) × (end : History S D P G C) × AreOpening now found points × Goes [] points end × ReadsAs read end
+  IsOpened now found read = (points : List (Point S D P G C)) × (end : History S D P G C) × AreOpening now found points × Goes [] points end × ReadsAsKept read end

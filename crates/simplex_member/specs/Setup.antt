@@ -1,12 +1,15 @@
 -- What stays the same through an opening of a member's node.
-use Rattle.std.specs.Prelude.{◌≡◌, ◌<◌, ◌+◌, ◌^◌, ℕ, Bool, false, max, unwrap_or, Option, Some, None, IfSome}
+use Rattle.std.specs.Prelude.{◌≡◌, ◌<◌, ◌+◌, ◌^◌, ℕ, Bool, max, unwrap_or, Option, Some, None, IfSome}
 use Rattle.types_core.specs.declared.scheme.Scheme.{Ghosts}
 use Rattle.types_terms.specs.declared.elector.Elector as elector
+use Rattle.messages_certificates.specs.ProposalCertificate.{Finalization}
 use Rattle.simplex_record.specs.declared.owner.Owner.{Owner}
 use Rattle.voter_rules.specs.declared.config.Config.{Config}
 use Rattle.voter_rules.specs.declared.config.ForwardPolicy.{ForwardPolicy}
 use Rattle.voter_rules.specs.declared.config.SkipPolicy.{SkipPolicy}
 use Rattle.voter_rules.specs.declared.config.SkipPolicy.TheVariants as skip
+use Rattle.voter_rules.specs.declared.floor.Floor.{Floor}
+use Rattle.voter_rules.specs.declared.floor.Floor.TheVariants as floor
 use Rattle.voter_history.specs.History as views
 use Rattle.voter_views.specs.Views.{built}
 use Rattle.voter_rules.specs.Ancestry.{Member, member}
@@ -24,8 +27,6 @@ pub record Setup (S D C : Type 0) : Type 0 where
   pub forward : ForwardPolicy
   -- votes are kept in full for good
   pub tracks : Bool
-  -- its record may be rewritten
-  pub rewrites : Bool
 
 -- for how long a leader may be silent
 abbrev pub silence_of : SkipPolicy → Option ℕ
@@ -74,15 +75,25 @@ pub record GoesByMembers {S D C : Type 0} (s : Setup S D C) (members : ℕ) : Ty
   pub own : s.voter.me ≡ Some s.me
   pub named : (view : ℕ) (certificate : Option C) → s.voter.elect view certificate < members
 
+module _ {S D P G C : Type 0} where
+  -- the payload of view 0, where that is what a node starts from
+  abbrev pub genesis_of : Floor S D P G C → Option D
+  genesis_of (floor.Genesis payload) = Some payload
+  genesis_of (floor.Finalized c) = None
+
+  -- the finalization that its opening brings, where it starts from one
+  abbrev pub brought_by : Floor S D P G C → Option (Finalization S D P G C)
+  brought_by (floor.Genesis payload) = None
+  brought_by (floor.Finalized c) = Some c
+
 module _ {S L D P G C : Type 0} where
   -- the setup of a node that is opened so, by the member of this index
-  abbrev pub setup_of : Ghosts S D P G C → elector.Ghosts L S D P G C → Config D → S → L → ℕ → Setup S D C
+  abbrev pub setup_of : Ghosts S D P G C → elector.Ghosts L S D P G C → Config (Floor S D P G C) → S → L → ℕ → Setup S D C
   setup_of g e config scheme l index = record {
     voter = built g e scheme l config;
     me = index;
-    genesis = Some config.floor;
+    genesis = genesis_of config.floor;
     silence = silence_of config.skip;
     forward = config.forward;
     tracks = config.track_historical_votes;
-    rewrites = false;
   }

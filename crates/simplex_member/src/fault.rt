@@ -1,5 +1,10 @@
 //! Why a node did not open, or can go on no more.
 
+ghost use Rattle.std.specs.Prelude.{◌≡◌};
+ghost use Rattle.simplex_member.specs.declared.fault.SetupFault.{SetupFault};
+ghost use Rattle.simplex_member.specs.Faults.{setup_fault_number};
+
+use voter_rules::FloorFault;
 use voter_rules::config::ConfigFault;
 
 /// Why a step did nothing that counts.
@@ -13,13 +18,35 @@ pub enum NodeFault {
     Failed,
 }
 
+/// What is wrong with how a node is set up, in the order in which it is tested.
+#[derive(Clone, Copy, Debug, PartialEq, Eq)]
+pub enum SetupFault {
+    /// Its configuration has this fault.
+    Config(ConfigFault),
+    /// The finalization that it starts from has this one.
+    Floor(FloorFault),
+}
+
+impl SetupFault {
+    /// Its number, from 1 on: of a configuration's faults, and then of those of what is started from. Of several faults the one with
+    /// the least number is told.
+    pub const fn number(self) -> u8
+        ensures { result ≡ setup_fault_number self }
+    {
+        match self {
+            SetupFault::Config(fault) => fault.number(),
+            SetupFault::Floor(fault) => fault.number(),
+        }
+    }
+}
+
 /// Why a node was not opened, in the order in which it is tested.
 #[derive(Clone, Copy, Debug, PartialEq, Eq)]
 pub enum OpenFault {
     /// The scheme has no key.
     NoKey,
-    /// The configuration has this fault.
-    Config(ConfigFault),
+    /// How the node is set up has this fault.
+    Config(SetupFault),
     /// The moment lies so far ahead that deadlines have no number.
     MomentTooLate,
     /// More views of a term are optimistic than a step may go over.

@@ -5,7 +5,7 @@ ghost use Rattle.types_codec.specs.Codec.{Readable};
 ghost use Rattle.messages_certificates.specs.declared.artifact.Artifact.{Artifact};
 ghost use Rattle.messages_certificates.specs.Artifact.{artifact_fits, artifact_spelling, artifact_within};
 ghost use Rattle.simplex_member.specs.Doing.{ActsEnd, ActsEndAnyhow, NothingIsDoneTwice};
-ghost use Rattle.simplex_member.specs.Floors.{AllIsKept, DroppedAreUnknown, KeptTellsAll, LivesLeaveAll, NoneIsDueBelow, ParentsLieFromFloor, RewritesAreSo};
+ghost use Rattle.simplex_member.specs.Floors.{DroppedAreUnknown, KeptIsLawful, KeptIsOfViews, KeptStandsForAll, KeptTellsAll, LawfulIsOpened, LivesLeaveAll, NextFitsKept, NoneIsDueBelow, ParentsLieFromFloor, RewritesAreSo, RewritesLeaveNothingDue};
 ghost use Rattle.simplex_member.specs.Laws.{AcceptedAreKnown, Agree, AgreeIfHonest, AreReadBack, AwaitedIsJudgeable, AwaitedMayBeRecorded, BlockedByRefusalAlone, BroughtFloorsAreSound, CanBeSent, ConstructionsBlockNone, CorrectVotesAreSound, CorrectVotesContradictNone, DeedsAreDone, DeedsAreOfPoints, DueFinalizeMayBeRecorded, DueIsBound, DueMayBeRecorded, DueNullifyMayBeRecorded, EarlyIsInTime, EmptyIsOpened, FinalizeAlike, HandedCertificatesAreSound, IsExact, KnownNullifiesAreRecorded, LeftIsFound, LeftStandsOnGround, LieOnOneChain, LifeLaws, ListLaws, LivesLeaveLawful, LivesLeaveReadable, MadeAreHonest, MadeAreSound, MadeIsAllowed, MadeListVotes, NeverContradicts, NeverForeign, NextStandsOnGround, NoQuorumIsLost, NoneIsBlamed, OneIsRead, OwnVotesAgree, PacketsAreInGrammar, ProposalsLieInTheirViews, ReachedAreGoneTo, RecordLaws, RecordsGrow, RecordsStandOnGround, RecordsStayLawful, ReportedCertify, ReportsAreHonest, RequestsAreTracked, RoundLaws, RunsAreStretches, StepsOfSeveralRaiseLittle, StepsRaiseLittle, ViewsNeverFall, VotersAreOrderly, VotersTellTheRecord, VotesAreLawful, VotesAreRecorded, VotesWereDue};
 ghost use Rattle.simplex_member.specs.Packet.{Formats, IsRecordable, formats};
 ghost use Rattle.simplex_member.specs.Setup.{Setup};
@@ -26,8 +26,8 @@ use simplex_record::{
 use simplex_resolver::what_is_produced_came;
 use types_core::{Digest, Listing, Scheme};
 use voter_laws::{
-    a_lone_member_stands_on_ground, what_is_due_may_be_recorded, what_is_due_stands_on_ground,
-    what_is_known_is_recorded, what_is_recorded_is_known,
+    a_latch_changes_nothing_due, a_lone_member_stands_on_ground, what_is_due_may_be_recorded,
+    what_is_due_stands_on_ground, what_is_known_is_recorded, what_is_recorded_is_known,
 };
 
 /// What the laws below take from those of the votes of a round.
@@ -127,12 +127,30 @@ pub fn rewrites_are_so<S: Scheme<D>, D: Digest>()
     what_is_known_is_recorded::<S, D>();
 }
 
-/// What is kept through rewrites is of what was recorded, and all of it that reaches above the last finalized view; where nothing may
-/// be rewritten, it is all.
-pub fn what_is_kept_tells_all<S: Scheme<D>, D: Digest>()
-    ensures tells { (f : Formats S D S.PublicKey S.Signature S.Certificate) (s : Setup S D S.Certificate) → KeptTellsAll S.Scheme f s }
-    ensures whole { (f : Formats S D S.PublicKey S.Signature S.Certificate) (s : Setup S D S.Certificate) → AllIsKept S.Scheme f s }
+/// Where nothing is due, a rewrite leaves it so: it changes nothing of what is known but the view behind which the record begins.
+pub fn rewrites_leave_nothing_due<S: Scheme<D>, D: Digest>()
+    ensures { (f : Formats S D S.PublicKey S.Signature S.Certificate) (s : Setup S D S.Certificate) → RewritesLeaveNothingDue S.Scheme f s }
 {
+    a_latch_changes_nothing_due::<S, D>();
+}
+
+/// What is kept through rewrites is of what was recorded, and all of it that reaches above the last finalized view.
+pub fn what_is_kept_tells_all<S: Scheme<D>, D: Digest>()
+    ensures { (f : Formats S D S.PublicKey S.Signature S.Certificate) (s : Setup S D S.Certificate) → KeptTellsAll S.Scheme f s }
+{
+    what_is_known_is_recorded::<S, D>();
+}
+
+/// What is kept through rewrites stands for all that was recorded: it is lawful, of the same current view and the same last finalized
+/// one, and what may come next fits behind it.
+pub fn what_is_kept_stands_for_all<S: Scheme<D>, D: Digest>()
+    ensures stands { (f : Formats S D S.PublicKey S.Signature S.Certificate) (s : Setup S D S.Certificate) → KeptStandsForAll S.Scheme f s }
+    ensures views { (f : Formats S D S.PublicKey S.Signature S.Certificate) (s : Setup S D S.Certificate) → KeptIsOfViews S.Scheme f s }
+    ensures lawful { (f : Formats S D S.PublicKey S.Signature S.Certificate) (s : Setup S D S.Certificate) → KeptIsLawful S.Scheme f s }
+    ensures fits { (f : Formats S D S.PublicKey S.Signature S.Certificate) (s : Setup S D S.Certificate) → NextFitsKept S.Scheme f s }
+{
+    records_obey::<S, D>();
+    a_rewritten_record_is_lawful::<S, D>();
     what_is_known_is_recorded::<S, D>();
 }
 
@@ -161,6 +179,11 @@ pub fn parents_lie_from_the_floor<S: Scheme<D>, D: Digest>()
 /// An empty record is opened at any moment that lies early enough.
 pub fn empty_records_are_opened<S: Scheme<D>, D: Digest>()
     ensures { (f : Formats S D S.PublicKey S.Signature S.Certificate) (s : Setup S D S.Certificate) → EmptyIsOpened S.Scheme f s }
+{}
+
+/// So is each lawful record, whatever stands in it: an opening goes through all of it.
+pub fn lawful_records_are_opened<S: Scheme<D>, D: Digest>()
+    ensures { (f : Formats S D S.PublicKey S.Signature S.Certificate) (s : Setup S D S.Certificate) → LawfulIsOpened S.Scheme f s }
 {}
 
 /// No deadline that is counted from a moment early enough is cut at the last moment of 64 bits.

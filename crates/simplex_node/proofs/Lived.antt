@@ -3,7 +3,6 @@ use Rattle.std.proofs.Common.{◌≡◌, ◌⊎◌, inl, inr, ℕ, List, [], ◌
 use Rattle.std.specs.Prelude.{All, IfSome, MatchOption, option_map, option_to_list}
 use Rattle.std.proofs.lemmas.List.{append-nil}
 use Rattle.std.proofs.lemmas.Option.{same_Some}
-use Rattle.types_quorum.specs.Counting.{Contains-nil}
 use Rattle.types_core.specs.declared.scheme.Scheme.{Ghosts}
 use Rattle.messages_certificates.specs.declared.artifact.Artifact.{Artifact}
 use Rattle.types_terms.specs.declared.elector.Elector as elector
@@ -22,20 +21,18 @@ use Rattle.simplex_member.specs.declared.fault.OpenFault.TheVariants as open_fau
 use Rattle.simplex_member.specs.declared.refusal.Refusal.{Refusal}
 use Rattle.simplex_member.specs.Deeds.{AreActions}
 use Rattle.simplex_member.specs.First.{IsFirst}
-use Rattle.simplex_member.specs.Allowed.{AreAllowed}
-use Rattle.simplex_member.specs.Floors.{AllIsKept}
-use Rattle.simplex_member.specs.Lives.{Appends, Broken, Course, Founds, IsCut, Lasting, Life, Lived, Lives, Refuses, Rewrites, Turn, Turns, Went, turn_events}
+use Rattle.simplex_member.specs.Lives.{Broken, Course, Founds, Lasting, Life, Lived, Lives, Refuses, Turn, Turns, Went, turn_events}
 use Rattle.simplex_member.specs.Member as whole
-use Rattle.simplex_member.specs.Member.{Goes, AreActionsOf, IsReached, Run, Steps, Takes, after}
+use Rattle.simplex_member.specs.Member.{AppendsFloor, Goes, AreActionsOf, IsReached, Run, Steps, Takes, after}
 use Rattle.simplex_member.specs.Packet.{Formats}
-use Rattle.simplex_member.specs.Point.{Point, Rewrote, History}
-use Rattle.simplex_member.specs.Recorded.{fresh_of, kept_of, record_of}
+use Rattle.simplex_member.specs.Point.{Point, History}
+use Rattle.simplex_member.specs.Recorded.{fresh_of, kept_of}
 use Rattle.simplex_member.specs.Refusals.{refused_deeds, tests}
-use Rattle.simplex_member.specs.Setup.{IsOfOneMember, Setup, owner_of}
+use Rattle.simplex_member.specs.Setup.{IsOfOneMember, Setup, brought_by, owner_of}
 use Rattle.simplex_record.specs.declared.owner.Owner.{Owner}
 use Rattle.simplex_record.specs.Lawful.{IsRefusedAt}
 use Rattle.node_record.specs.Ledger.{AreFoundOn, IsContradiction}
-use Rattle.node_steps.specs.Opening.{MayBeLeftOpen, early, open_tests}
+use Rattle.node_steps.specs.Opening.{AreOpenedOn, MayBeLeftOpen, early, open_tests}
 use Rattle.simplex_node.specs.declared.living.Answered.{Answered}
 use Rattle.simplex_node.specs.declared.living.Opening.{Opening}
 use Rattle.simplex_node.specs.Living.{AreLivesOf, AreReplies, BeginsNone, FailsFor, Gives, IsLeftByLives, IsLeftByTurns, IsLifeOf, MayLeaveOnly, OnImage, Tells, Try, setup_by, tried}
@@ -58,33 +55,6 @@ module _ {S D P G C : Type 0} (g : Ghosts S D P G C) (f : Formats S D P G C) whe
   )
   lives-on s ever found (first ∷ lives) all left life end (mid, founds_first, lived_first, more, same) founds lived one =
       (mid, founds_first, lived_first, lives-on s (ever ++ (first.founded ++ fresh_of mid)) (kept_of first.setup.voter.length mid) lives all left life end more founds lived one, same)
-
-  -- no floor is brought, so none is recorded
-  pub none-founded : (course : Course S D P G C) (found : List (Artifact S D P G C)) → Appends g f course None found []
-  none-founded (Broken now points) found = inl refl
-  none-founded (Lasting now points turns cut) found = refl
-
-  -- ---- where a life leads each point was allowed
-
-  module _ (s : Setup S D C) where
-    goes-allowed : (points : List (Point S D P G C)) (h end : History S D P G C) → AreAllowed g f s h → Goes g f s h points end → AreAllowed g f s end
-    goes-allowed [] h end all is = subst (λ (k : History S D P G C). AreAllowed g f s k) (sym is) all
-    goes-allowed (p ∷ points) h end all goes = goes-allowed points (p ∷ h) end (goes.0, all) goes.1
-
-    turns-allowed : (turns : List (Turn S D P G C)) (h end : History S D P G C) → AreAllowed g f s h → Turns g f s h turns end → AreAllowed g f s end
-    turns-allowed [] h end all is = subst (λ (k : History S D P G C). AreAllowed g f s k) (sym is) all
-    turns-allowed (Refuses e r ∷ turns) h end all turned = turns-allowed turns h end all turned.1
-    turns-allowed (Went e points ∷ turns) h end all turned = turns-allowed turns turned.0 end (goes-allowed points h turned.0 all turned.2.goes) turned.3
-    turns-allowed (Rewrites c ∷ turns) h end all turned = turns-allowed turns (Rewrote c ∷ h) end (turned.0.allowed, all) turned.1
-
-    cut-allowed : (cut : Option (Event D × List (Point S D P G C))) (h end : History S D P G C) → AreAllowed g f s h → IsCut g f s h cut end → AreAllowed g f s end
-    cut-allowed None h end all is = subst (λ (k : History S D P G C). AreAllowed g f s k) (sym is) all
-    cut-allowed (Some c) h end all is = goes-allowed c.1 h end all is.1
-
-    pub lived-allowed : (found : List (Artifact S D P G C)) (course : Course S D P G C) (end : History S D P G C) → Lived g f s found course end → AreAllowed g f s end
-    lived-allowed found (Broken now points) end lived = goes-allowed points [] end tt lived.1
-    lived-allowed found (Lasting now points turns cut) end lived =
-        cut-allowed cut lived.1 end (turns-allowed turns lived.0 lived.1 (goes-allowed points [] lived.0 tt lived.3.goes) lived.4) lived.5
 
   module _ (s : Setup S D C) where
     -- where points lead
@@ -136,7 +106,7 @@ module _ {S D P G C : Type 0} (g : Ghosts S D P G C) (f : Formats S D P G C) whe
 
     -- all events were answered
     pub turns-whole : (h : History S D P G C) (events : List (Event D)) (replies : List (Reply S D P G C)) (end : History S D P G C) (fault : Option NodeFault) (image : List ℕ)
-        → Run g f s h events replies end → Reads image (map f.artifact (record_of end)) → IsLeftByTurns g f s h events replies fault image
+        → Run g f s h events replies end → Reads image (map f.artifact (kept_of s.voter.length end)) → IsLeftByTurns g f s h events replies fault image
     turns-whole h events replies end fault image run reads =
         let t = run-turns h events replies end run in
         record {
@@ -154,7 +124,7 @@ module _ {S D P G C : Type 0} (g : Ghosts S D P G C) (f : Formats S D P G C) whe
         }
 
     -- none was
-    pub turns-none : (h : History S D P G C) (events : List (Event D)) (why : NodeFault) (image : List ℕ) → Reads image (map f.artifact (record_of h)) → IsLeftByTurns g f s h events [] (Some why) image
+    pub turns-none : (h : History S D P G C) (events : List (Event D)) (why : NodeFault) (image : List ℕ) → Reads image (map f.artifact (kept_of s.voter.length h)) → IsLeftByTurns g f s h events [] (Some why) image
     turns-none h events why image reads = record {
       turns = [];
       last = h;
@@ -220,19 +190,19 @@ module _ {S D P G C : Type 0} (g : Ghosts S D P G C) (f : Formats S D P G C) whe
         ∙ append-nil (turn_events turns ++ []) ∙ append-nil (turn_events turns))
 
 -- an opening and what it answered
-abbrev pub trial : {S L D P G C : Type 0} → Opening S L D → Option (Answered S D P G C) → Try S L D P G C
+abbrev pub trial : {S L D P G C : Type 0} → Opening S L D P G C → Option (Answered S D P G C) → Try S L D P G C
 trial o answer = record { opening = o; answer = answer }
 
 abbrev pub owner_by : ℕ → ℕ → ℕ → Owner
 owner_by epoch length me = record { epoch = epoch; term_length = length; signer = me }
 
 -- openings of which none has told anything, in two parts
-pub tried-none : {S L D P G C : Type 0} (over more : List (Opening S L D)) → tried {P = P} {G = G} {C = C} (over ++ more) [] ≡ tried over [] ++ tried more []
+pub tried-none : {S L D P G C : Type 0} (over more : List (Opening S L D P G C)) → tried {P = P} {G = G} {C = C} (over ++ more) [] ≡ tried over [] ++ tried more []
 tried-none [] more = refl
 tried-none {S} {L} {D} {P} {G} {C} (o ∷ over) more = ap (λ (l : List (Try S L D P G C)). trial o None ∷ l) (tried-none over more)
 
 -- one more that answered
-pub tried-more : {S L D P G C : Type 0} (over : List (Opening S L D)) (answers : List (Answered S D P G C)) (o : Opening S L D) (a : Answered S D P G C) → length answers ≡ length over
+pub tried-more : {S L D P G C : Type 0} (over : List (Opening S L D P G C)) (answers : List (Answered S D P G C)) (o : Opening S L D P G C) (a : Answered S D P G C) → length answers ≡ length over
     → tried (over ++ o ∷ []) (answers ++ a ∷ []) ≡ tried over answers ++ trial o (Some a) ∷ []
 tried-more [] [] o a same = refl
 tried-more [] (b ∷ answers) o a same = absurd (omega (arith, same))
@@ -242,7 +212,7 @@ tried-more {S} {L} {D} {P} {G} {C} (p ∷ over) (b ∷ answers) o a same =
 
 module _ {S L D P G C : Type 0} (g : Ghosts S D P G C) (e : elector.Ghosts L S D P G C) (f : Formats S D P G C) (index : ℕ) where
   -- lives behind some openings are such behind more of them that may have begun none
-  pub lives-none : (tries : List (Try S L D P G C)) (o : Opening S L D) (answer : Option (Answered S D P G C)) (lives : List (Life S D P G C)) → BeginsNone g e f index o answer
+  pub lives-none : (tries : List (Try S L D P G C)) (o : Opening S L D P G C) (answer : Option (Answered S D P G C)) (lives : List (Life S D P G C)) → BeginsNone g e f index o answer
       → AreLivesOf g e f index tries lives → AreLivesOf g e f index (tries ++ trial o answer ∷ []) lives
   lives-none [] o answer [] begins are = (begins, tt)
   lives-none [] o answer (life ∷ lives) begins are = absurd are
@@ -251,7 +221,7 @@ module _ {S L D P G C : Type 0} (g : Ghosts S D P G C) (e : elector.Ghosts L S D
   lives-none (t ∷ tries) o answer (life ∷ lives) begins (inr (none, more)) = inr (none, lives-none tries o answer (life ∷ lives) begins more)
 
   -- and with one life more behind one more opening
-  pub lives-more : (tries : List (Try S L D P G C)) (o : Opening S L D) (answer : Option (Answered S D P G C)) (lives : List (Life S D P G C)) (life : Life S D P G C)
+  pub lives-more : (tries : List (Try S L D P G C)) (o : Opening S L D P G C) (answer : Option (Answered S D P G C)) (lives : List (Life S D P G C)) (life : Life S D P G C)
       → IsLifeOf g e f index o life → Gives g e f index o answer life → AreLivesOf g e f index tries lives
       → AreLivesOf g e f index (tries ++ trial o answer ∷ []) (lives ++ life ∷ [])
   lives-more [] o answer [] life is gives are = inl (is, gives, tt)
@@ -261,7 +231,7 @@ module _ {S L D P G C : Type 0} (g : Ghosts S D P G C) (e : elector.Ghosts L S D
   lives-more (t ∷ tries) o answer (first ∷ lives) life is gives (inr (none, more)) = inr (none, lives-more tries o answer (first ∷ lives) life is gives more)
 
   -- what was answered is forgotten
-  pub lives-untold : (openings : List (Opening S L D)) (answers : List (Answered S D P G C)) (more : List (Try S L D P G C)) (lives : List (Life S D P G C))
+  pub lives-untold : (openings : List (Opening S L D P G C)) (answers : List (Answered S D P G C)) (more : List (Try S L D P G C)) (lives : List (Life S D P G C))
       → AreLivesOf g e f index (tried openings answers ++ more) lives → AreLivesOf g e f index (tried openings [] ++ more) lives
   lives-untold [] answers more lives are = are
   lives-untold (o ∷ openings) [] more lives are = are
@@ -282,7 +252,7 @@ module _ {S L D P G C : Type 0} (g : Ghosts S D P G C) (e : elector.Ghosts L S D
   Left tries image = IsLeftByLives g e f s tries image
 
   -- one more opening that may have begun no life
-  pub left-none : (tries : List (Try S L D P G C)) (o : Opening S L D) (answer : Option (Answered S D P G C)) → BeginsNone g e f s.me o answer
+  pub left-none : (tries : List (Try S L D P G C)) (o : Opening S L D P G C) (answer : Option (Answered S D P G C)) → BeginsNone g e f s.me o answer
       → (image : List ℕ) → Left tries image → Left (tries ++ trial o answer ∷ []) image
   left-none tries o answer begins image is = record {
     lives = is.lives;
@@ -294,7 +264,7 @@ module _ {S L D P G C : Type 0} (g : Ghosts S D P G C) (e : elector.Ghosts L S D
   }
 
   -- openings whose answers are forgotten
-  pub left-untold : (before : List (Try S L D P G C)) (openings : List (Opening S L D)) (answers : List (Answered S D P G C)) (more : List (Try S L D P G C))
+  pub left-untold : (before : List (Try S L D P G C)) (openings : List (Opening S L D P G C)) (answers : List (Answered S D P G C)) (more : List (Try S L D P G C))
       → (image : List ℕ) → Left (before ++ (tried openings answers ++ more)) image → Left (before ++ (tried openings [] ++ more)) image
   left-untold before openings answers more image is = record {
     lives = is.lives;
@@ -305,35 +275,32 @@ module _ {S L D P G C : Type 0} (g : Ghosts S D P G C) (e : elector.Ghosts L S D
     reads = is.reads;
   }
 
-  module _ (before : List (Try S L D P G C)) (o : Opening S L D) (one : IsOfOneMember s (setup_by g e s.me o)) where
+  module _ (before : List (Try S L D P G C)) (o : Opening S L D P G C) (one : IsOfOneMember s (setup_by g e s.me o)) where
     -- how it is set up
     abbrev t : Setup S D C
     t = setup_by g e s.me o
 
     -- its life
-    abbrev pub life_by : Course S D P G C → Life S D P G C
-    life_by course = record { setup = t; brought = None; founded = []; course = course }
+    abbrev pub life_by : List (Artifact S D P G C) → Course S D P G C → Life S D P G C
+    life_by founded course = record { setup = t; brought = brought_by o.config.floor; founded = founded; course = course }
 
     -- one life more, which rewrites nothing
-    pub left-more : (answer : Option (Answered S D P G C)) (seen image : List ℕ) (is : Left before seen) (course : Course S D P G C) (end : History S D P G C)
-        → AllIsKept g f t → IsLifeOf g e f s.me o (life_by course) → Gives g e f s.me o answer (life_by course)
-        → Lived g f t is.left course end → Reads image (map f.artifact (record_of end)) → Left (before ++ trial o answer ∷ []) image
-    left-more answer seen image is course end all_kept life gives lived reads = record {
-      lives = is.lives ++ life_by course ∷ [];
-      all = is.all ++ ([] ++ fresh_of end);
+    pub left-more : (answer : Option (Answered S D P G C)) (seen image : List ℕ) (is : Left before seen) (founded : List (Artifact S D P G C)) (course : Course S D P G C) (end : History S D P G C)
+        → IsLifeOf g e f s.me o (life_by founded course) → Gives g e f s.me o answer (life_by founded course) → Founds g f is.left (life_by founded course)
+        → Lived g f t (is.left ++ founded) course end → Reads image (map f.artifact (kept_of t.voter.length end)) → Left (before ++ trial o answer ∷ []) image
+    left-more answer seen image is founded course end life gives founds lived reads = record {
+      lives = is.lives ++ life_by founded course ∷ [];
+      all = is.all ++ (founded ++ fresh_of end);
       left = kept_of t.voter.length end;
-      are = lives-more g e f s.me before o answer is.lives (life_by course) life gives is.are;
-      lived = lives-on g f s [] [] is.lives is.all is.left (life_by course) end is.lived
-          (record { appends = none-founded g f course is.left; readable = λ y here. absurd (Contains-nil y here) })
-          (subst (λ (xs : List (Artifact S D P G C)). Lived g f t xs course end) (sym (append-nil is.left)) lived) one;
-      reads = subst (λ (xs : List (Artifact S D P G C)). Reads image (map f.artifact xs)) (sym (all_kept end (lived-allowed g f t is.left course end lived) refl)) reads;
+      are = lives-more g e f s.me before o answer is.lives (life_by founded course) life gives is.are;
+      lived = lives-on g f s [] [] is.lives is.all is.left (life_by founded course) end is.lived founds lived one;
+      reads = reads;
     }
 
     module _ {K : Type 0} (k : disk.Ghosts K) (Readable : Artifact S D P G C → Type 0) (on : K) (keeps : k.keeps)
         (one_record : (image : List ℕ) (bodies others : List (List ℕ)) → Reads image bodies → Reads image others → bodies ≡ others)
         (found_is : (lives : List (Life S D P G C)) (all left found : List (Artifact S D P G C)) (image : List ℕ) → Lives g f s [] [] lives all left → Reads image (map f.artifact left)
         → All Readable found → Reads image (map f.artifact found) → found ≡ left)
-        (all_kept : AllIsKept g f t)
         (start : MayLeaveOnly (k.calls on) (Left before)) (seen : MayLeave (k.calls on) (k.seen on)) where
       -- what was left at the start
       pub at-start : Left before (k.seen on)
@@ -345,8 +312,8 @@ module _ {S L D P G C : Type 0} (g : Ghosts S D P G C) (e : elector.Ghosts L S D
 
       -- what a crash inside the opening leaves, and one that failed
       pub left-open : (answer : Option (Answered S D P G C)) → BeginsNone g e f s.me o answer
-          → ((points : List (Point S D P G C)) → Gives g e f s.me o answer (life_by (Broken o.now points)))
-          → (image : List ℕ) → OnImage (MayBeLeftOpen g e k f t Readable (One on) o.now) image → Left (before ++ trial o answer ∷ []) image
+          → ((founded : List (Artifact S D P G C)) (points : List (Point S D P G C)) → Gives g e f s.me o answer (life_by founded (Broken o.now points)))
+          → (image : List ℕ) → OnImage (MayBeLeftOpen g e k f t Readable (brought_by o.config.floor) (One on) o.now) image → Left (before ++ trial o answer ∷ []) image
       left-open answer begins gives image (read, reads, inl (before-image, left_before, reads_before)) =
           let was = start before-image left_before in
           left-none before o answer begins image (record {
@@ -357,20 +324,28 @@ module _ {S L D P G C : Type 0} (g : Ghosts S D P G C) (e : elector.Ghosts L S D
             lived = was.lived;
             reads = subst (λ (bodies : List (List ℕ)). Reads image bodies) (one_record before-image read (map f.artifact was.left) reads_before was.reads) reads;
           })
-      left-open answer begins gives image (read, reads, inr (found, are, opened)) = left-more answer (k.seen on) image at-start (Broken o.now opened.0) opened.1 all_kept
-          (record { setup = refl; brought = refl; now = refl; left = o.events.items; events = refl }) (gives opened.0)
-          (subst (λ (xs : List (Artifact S D P G C)). Lived g f t xs (Broken o.now opened.0) opened.1) (found-left found are) (opened.2, opened.3))
+      left-open answer begins gives image (read, reads, inr (found, founded, are, opened)) = left-more answer (k.seen on) image at-start founded (Broken o.now opened.0) opened.1
+          (record { setup = refl; brought = refl; now = refl; left = o.events.items; events = refl }) (gives founded opened.0)
+          (record {
+            appends = inr (subst (λ (xs : List (Artifact S D P G C)). AppendsFloor (brought_by o.config.floor) xs founded) (found-left found are.are_found) are.appended.appends);
+            readable = are.appended.recordable;
+          })
+          (subst (λ (xs : List (Artifact S D P G C)). Lived g f t (xs ++ founded) (Broken o.now opened.0) opened.1) (found-left found are.are_found) (opened.2, opened.3))
           (subst (λ (bodies : List (List ℕ)). Reads image bodies) opened.4 reads)
 
       -- what turns behind the opening leave
-      pub left-turned : (answer : Option (Answered S D P G C)) (found : List (Artifact S D P G C)) (first : List (Action S D P G C)) (mid : History S D P G C) (replies : List (Reply S D P G C)) (fault : Option NodeFault)
-          → AreFoundOn k f.artifact Readable (One on) found → (opens : whole.Opens g f t o.now found first mid) → (image : List ℕ) → (is : IsLeftByTurns g f t mid o.events.items replies fault image)
-          → Gives g e f s.me o answer (life_by (Lasting o.now opens.points is.turns is.cut))
+      pub left-turned : (answer : Option (Answered S D P G C)) (found founded : List (Artifact S D P G C)) (first : List (Action S D P G C)) (mid : History S D P G C) (replies : List (Reply S D P G C)) (fault : Option NodeFault)
+          → AreOpenedOn g k f t Readable (brought_by o.config.floor) (One on) found founded → (opens : whole.Opens g f t o.now (found ++ founded) first mid) → (image : List ℕ) → (is : IsLeftByTurns g f t mid o.events.items replies fault image)
+          → Gives g e f s.me o answer (life_by founded (Lasting o.now opens.points is.turns is.cut))
           → Left (before ++ trial o answer ∷ []) image
-      left-turned answer found first mid replies fault are opens image is gives =
-          left-more answer (k.seen on) image at-start (Lasting o.now opens.points is.turns is.cut) is.end all_kept
+      left-turned answer found founded first mid replies fault are opens image is gives =
+          left-more answer (k.seen on) image at-start founded (Lasting o.now opens.points is.turns is.cut) is.end
           (record { setup = refl; brought = refl; now = refl; left = is.left; events = is.split }) gives
-          (subst (λ (xs : List (Artifact S D P G C)). Lived g f t xs (Lasting o.now opens.points is.turns is.cut) is.end) (found-left found are)
+          (record {
+            appends = subst (λ (xs : List (Artifact S D P G C)). AppendsFloor (brought_by o.config.floor) xs founded) (found-left found are.are_found) are.appended.appends;
+            readable = are.appended.recordable;
+          })
+          (subst (λ (xs : List (Artifact S D P G C)). Lived g f t (xs ++ founded) (Lasting o.now opens.points is.turns is.cut) is.end) (found-left found are.are_found)
           (mid, is.last, opens.opening, opens.rests, is.turned, is.is_cut))
           is.reads
 

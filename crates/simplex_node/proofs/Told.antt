@@ -28,14 +28,13 @@ use Rattle.simplex_member.specs.declared.fault.NodeFault.TheVariants as node_fau
 use Rattle.simplex_member.specs.declared.fault.OpenFault.{OpenFault}
 use Rattle.simplex_member.specs.declared.fault.OpenFault.TheVariants as open_fault
 use Rattle.simplex_member.specs.First.{IsFirst}
-use Rattle.simplex_member.specs.Floors.{AllIsKept}
 use Rattle.simplex_member.specs.Laws.{LeftIsFound, NeverContradicts, NeverForeign}
 use Rattle.simplex_member.specs.Lives.{Lasting}
-use Rattle.simplex_member.specs.Member.{IsReached, ReadsAs}
+use Rattle.simplex_member.specs.Member.{IsReached, ReadsAsKept}
 use Rattle.simplex_member.specs.Packet.{Formats}
 use Rattle.simplex_member.specs.Point.{History}
-use Rattle.simplex_member.specs.Recorded.{record_of}
-use Rattle.simplex_member.specs.Setup.{IsOfOneMember, Setup, owner_of}
+use Rattle.simplex_member.specs.Recorded.{kept_of}
+use Rattle.simplex_member.specs.Setup.{IsOfOneMember, Setup, brought_by, owner_of}
 use Rattle.node_record.specs.Ledger.{IsContradiction}
 use Rattle.node_steps.specs.declared.node.Node.{Node}
 use Rattle.node_steps.specs.Keeps.{AtOwn, NodeKeeps, book_of, disks_of}
@@ -51,12 +50,12 @@ use Rattle.simplex_node.proofs.Lived.{fails, leaves-on, left-none, left-open, le
 
 module _ {S L D P G C K : Type 0} (g : Ghosts S D P G C) (e : elector.Ghosts L S D P G C) (k : disk.Ghosts K) (formats : ℕ → Formats S D P G C) (Readable : Artifact S D P G C → Type 0)
     (one_record : (image : List ℕ) (bodies others : List (List ℕ)) → Reads image bodies → Reads image others → bodies ≡ others)
-    (found_is : (n : ℕ) → n ≤ 65535 → (s : Setup S D C) → LeftIsFound g (formats n) s Readable) (all_kept : (n : ℕ) (s : Setup S D C) → AllIsKept g (formats n) s)
-    (on new : K) (o : Opening S L D) (seen : k.keeps → MayLeave (k.calls on) (k.seen on)) where
+    (found_is : (n : ℕ) → n ≤ 65535 → (s : Setup S D C) → LeftIsFound g (formats n) s Readable)
+    (on new : K) (o : Opening S L D P G C) (seen : k.keeps → MayLeave (k.calls on) (k.seen on)) where
   abbrev f : Formats S D P G C
   f = formats (g.size o.scheme.value)
 
-  abbrev IsMember : Setup S D C → Opening S L D → Type 0
+  abbrev IsMember : Setup S D C → Opening S L D P G C → Type 0
   IsMember s p = IsOfOneMember s (setup_by g e s.me p)
 
   -- what is so by the opening's scheme is so by that of the member, which is the same
@@ -73,46 +72,46 @@ module _ {S L D P G C K : Type 0} (g : Ghosts S D P G C) (e : elector.Ghosts L S
   -- ---- it opened
 
   module _ (node : Node S L D K P G C) (first : List (Action S D P G C))
-      (opened : (index : ℕ) × (g.own o.scheme.value ≡ Some index) × IsOpenAndSettled g e k f (setup_by g e index o) Readable (One on) o.now node first) where
+      (opened : (index : ℕ) × (g.own o.scheme.value ≡ Some index) × IsOpenAndSettled g e k f (setup_by g e index o) Readable (brought_by o.config.floor) (One on) o.now node first) where
     pub opened-told : (kept : Answered S D P G C) (actions : Vec (Action S D P G C) Global) (answers : Answers S D P G C) → kept ≡ Opened actions answers → actions.items ≡ first
         → AtOwn g e k formats node (λ f s h. k.keeps → MayLeaveOnly (k.calls new) (IsLeftByTurns g f s h o.events.items answers.replies.items answers.fault))
         → OverLives g e k formats on (o ∷ []) (λ Left. MayLeaveOnly (k.calls new) (Left (tried (o ∷ []) (kept ∷ []))))
     opened-told kept actions answers told same ran =
         over-lives (λ Left. MayLeaveOnly (k.calls new) (Left (tried (o ∷ []) (kept ∷ []))))
         (λ s before own small keeps one start image left.
-        let is = same-index {P = λ index. IsOpenAndSettled g e k f (setup_by g e index o) Readable (One on) o.now node first} opened own in
+        let is = same-index {P = λ index. IsOpenAndSettled g e k f (setup_by g e index o) Readable (brought_by o.config.floor) (One on) o.now node first} opened own in
         let turns = ran (setup_by g e s.me o) is.end is.keeps keeps image left in
-        left-turned g e f s before o one k Readable on keeps one_record (found_is (g.size o.scheme.value) small s) (all_kept (g.size o.scheme.value) (setup_by g e s.me o)) start (seen keeps) (Some kept) is.found first is.end answers.replies.items
-        answers.fault is.are_found is.opens image turns
-        (subst (λ (a : Answered S D P G C). Gives g e f s.me o (Some a) (record { setup = setup_by g e s.me o; brought = None; founded = []; course = Lasting o.now is.opens.points turns.turns turns.cut })) (sym told)
+        left-turned g e f s before o one k Readable on keeps one_record (found_is (g.size o.scheme.value) small s) start (seen keeps) (Some kept) is.found is.founded first is.end answers.replies.items
+        answers.fault is.are is.opens image turns
+        (subst (λ (a : Answered S D P G C). Gives g e f s.me o (Some a) (record { setup = setup_by g e s.me o; brought = brought_by o.config.floor; founded = is.founded; course = Lasting o.now is.opens.points turns.turns turns.cut })) (sym told)
         (subst (λ (l : List (Action S D P G C)). Tells g f (setup_by g e s.me o) o.events.items l answers.replies.items answers.fault (Lasting o.now is.opens.points turns.turns turns.cut)) (sym same)
-        (left-told g e f s before o one k Readable on keeps one_record (found_is (g.size o.scheme.value) small s) (all_kept (g.size o.scheme.value) (setup_by g e s.me o)) start (seen keeps) is.found first is.end answers.replies.items answers.fault is.opens image turns))))
+        (left-told g e f s before o one k Readable on keeps one_record (found_is (g.size o.scheme.value) small s) start (seen keeps) (is.found ++ is.founded) first is.end answers.replies.items answers.fault is.opens image turns))))
 
     pub opened-left : (mid : K) → disks_of node ≡ One mid
-        → ((index : ℕ) → g.own o.scheme.value ≡ Some index → k.keeps → Leave k (One on) (disks_of node) (MayBeLeftOpen g e k f (setup_by g e index o) Readable (One on) o.now))
+        → ((index : ℕ) → g.own o.scheme.value ≡ Some index → k.keeps → Leave k (One on) (disks_of node) (MayBeLeftOpen g e k f (setup_by g e index o) Readable (brought_by o.config.floor) (One on) o.now))
         → AtOwn g e k formats node (λ f s h. (d : K) → disks_of node ≡ One d → k.keeps → (k.calls new ≡ k.calls d) ⊎ LeavesOnly (k.calls d) (k.calls new) (OnImage (IsPassed g f s h o.events.items)))
         → OverLives g e k formats on (o ∷ []) (λ Left. LeavesOnly (k.calls on) (k.calls new) (Left (tried (o ∷ []) [])))
     opened-left mid over opening ran =
         over-lives (λ Left. LeavesOnly (k.calls on) (k.calls new) (Left (tried (o ∷ []) [])))
         (λ s before own small keeps one start.
-        let is = same-index {P = λ index. IsOpenAndSettled g e k f (setup_by g e index o) Readable (One on) o.now node first} opened own in
+        let is = same-index {P = λ index. IsOpenAndSettled g e k f (setup_by g e index o) Readable (brought_by o.config.floor) (One on) o.now node first} opened own in
         leaves-on (IsLeftByLives g e f s (before ++ tried (o ∷ []) []))
-        (subst (λ (d : Disks K). Leave k (One on) d (MayBeLeftOpen g e k f (setup_by g e s.me o) Readable (One on) o.now)) over (opening s.me own keeps))
-        (left-open g e f s before o one k Readable on keeps one_record (found_is (g.size o.scheme.value) small s) (all_kept (g.size o.scheme.value) (setup_by g e s.me o)) start (seen keeps) None tt (λ points. tt))
+        (subst (λ (d : Disks K). Leave k (One on) d (MayBeLeftOpen g e k f (setup_by g e s.me o) Readable (brought_by o.config.floor) (One on) o.now)) over (opening s.me own keeps))
+        (left-open g e f s before o one k Readable on keeps one_record (found_is (g.size o.scheme.value) small s) start (seen keeps) None tt (λ founded points. tt))
         (ran (setup_by g e s.me o) is.end is.keeps mid over keeps)
-        (λ image passed. left-turned g e f s before o one k Readable on keeps one_record (found_is (g.size o.scheme.value) small s) (all_kept (g.size o.scheme.value) (setup_by g e s.me o)) start (seen keeps) None is.found first is.end passed.2.replies
-        (Some node_fault.Memory) is.are_found is.opens image (turns-passed g f (setup_by g e s.me o) is.end o.events.items image passed) tt))
+        (λ image passed. left-turned g e f s before o one k Readable on keeps one_record (found_is (g.size o.scheme.value) small s) start (seen keeps) None is.found is.founded first is.end passed.2.replies
+        (Some node_fault.Memory) is.are is.opens image (turns-passed g f (setup_by g e s.me o) is.end o.events.items image passed) tt))
 
   -- ---- it failed
 
   module _ (why : OpenFault)
-      (opening : (index : ℕ) → g.own o.scheme.value ≡ Some index → k.keeps → Leave k (One on) (One new) (MayBeLeftOpen g e k f (setup_by g e index o) Readable (One on) o.now)) where
+      (opening : (index : ℕ) → g.own o.scheme.value ≡ Some index → k.keeps → Leave k (One on) (One new) (MayBeLeftOpen g e k f (setup_by g e index o) Readable (brought_by o.config.floor) (One on) o.now)) where
     pub failed-left : OverLives g e k formats on (o ∷ []) (λ Left. LeavesOnly (k.calls on) (k.calls new) (Left (tried (o ∷ []) [])))
     failed-left =
         over-lives (λ Left. LeavesOnly (k.calls on) (k.calls new) (Left (tried (o ∷ []) [])))
         (λ s before own small keeps one start.
         weaker (IsLeftByLives g e f s (before ++ tried (o ∷ []) [])) (opening s.me own keeps)
-        (left-open g e f s before o one k Readable on keeps one_record (found_is (g.size o.scheme.value) small s) (all_kept (g.size o.scheme.value) (setup_by g e s.me o)) start (seen keeps) None tt (λ points. tt)))
+        (left-open g e f s before o one k Readable on keeps one_record (found_is (g.size o.scheme.value) small s) start (seen keeps) None tt (λ founded points. tt)))
 
     pub failed-told : ((n : ℕ) → n ≤ 65535 → (s : Setup S D C) → NeverForeign g (formats n) s Readable) → ((n : ℕ) (s : Setup S D C) → NeverContradicts g (formats n) s)
         → IfSome (early why) (λ x. IsFirst (open_tests g (setup_by g e 0 o) o.config o.now) (Some x) × (One new ≡ One on)) → (early why ≡ None → IsFirst (open_tests g (setup_by g e 0 o) o.config o.now) None)
@@ -123,7 +122,7 @@ module _ {S L D P G C K : Type 0} (g : Ghosts S D P G C) (e : elector.Ghosts L S
     failed-told never lawful told later foreign contradiction =
         over-lives (λ Left. MayLeaveOnly (k.calls new) (Left (tried (o ∷ []) (NotOpened why ∷ []))))
         (λ s before own small keeps one start image left.
-        let so : FailsFor g e f s.me o why = fails g e f s before o one k Readable on keeps one_record (found_is (g.size o.scheme.value) small s) (all_kept (g.size o.scheme.value) (setup_by g e s.me o)) start (seen keeps)
+        let so : FailsFor g e f s.me o why = fails g e f s before o one k Readable on keeps one_record (found_is (g.size o.scheme.value) small s) start (seen keeps)
         (never (g.size o.scheme.value) small s) (lawful (g.size o.scheme.value) s) (One new ≡ One on) why told later foreign (λ position. contradiction position s.me own) in
         by-early s before own small keeps one start image left so (early why) refl)
       where
@@ -131,7 +130,7 @@ module _ {S L D P G C K : Type 0} (g : Ghosts S D P G C) (e : elector.Ghosts L S
             → MayLeaveOnly (k.calls on) (IsLeftByLives g e f s before) → (image : List ℕ) → MayLeave (k.calls new) image → FailsFor g e f s.me o why → (x : Option OpenFault) → early why ≡ x
             → IsLeftByLives g e f s (before ++ tried (o ∷ []) (NotOpened why ∷ [])) image
         by-early s before own small keeps one start image left so None is =
-            left-open g e f s before o one k Readable on keeps one_record (found_is (g.size o.scheme.value) small s) (all_kept (g.size o.scheme.value) (setup_by g e s.me o)) start (seen keeps) (Some (NotOpened why)) so (λ points. (so, is, points, refl))
+            left-open g e f s before o one k Readable on keeps one_record (found_is (g.size o.scheme.value) small s) start (seen keeps) (Some (NotOpened why)) so (λ founded points. (so, is, points, refl))
             image (at_last (opening s.me own keeps) image left)
         by-early s before own small keeps one start image left so (Some x) is =
             let both : One new ≡ One on = (subst (λ (y : Option OpenFault). IfSome y (λ x. IsFirst (open_tests g (setup_by g e 0 o) o.config o.now) (Some x) × (One new ≡ One on))) is told).1 in
@@ -145,15 +144,15 @@ module _ {S L D P G C K : Type 0} (g : Ghosts S D P G C) (e : elector.Ghosts L S
   Left tries image = IsLeftByLives g e f s (before ++ tries) image
 
   -- the openings before the rest are over, these are their answers, and lives that gave them have left this disk
-  pub record LivesOn (all rest : List (Opening S L D)) (answers : List (Answered S D P G C)) (now : K) : Type 0 where
-    pub over : List (Opening S L D)
+  pub record LivesOn (all rest : List (Opening S L D P G C)) (answers : List (Answered S D P G C)) (now : K) : Type 0 where
+    pub over : List (Opening S L D P G C)
     pub split : all ≡ over ++ rest
     pub each : length answers ≡ length over
     pub left : MayLeaveOnly (k.calls now) (Left (tried over answers))
     pub leaves : LeavesOnly (k.calls on) (k.calls now) (Left (tried over []))
 
   -- none is over at first
-  pub none-over : (all rest : List (Opening S L D)) (answers : List (Answered S D P G C)) → rest ≡ all → answers ≡ [] → MayLeaveOnly (k.calls on) (IsLeftByLives g e f s before)
+  pub none-over : (all rest : List (Opening S L D P G C)) (answers : List (Answered S D P G C)) → rest ≡ all → answers ≡ [] → MayLeaveOnly (k.calls on) (IsLeftByLives g e f s before)
       → LivesOn all rest answers on
   none-over all rest answers items nothing start =
       let begun : MayLeaveOnly (k.calls on) (Left []) =
@@ -167,7 +166,7 @@ module _ {S L D P G C K : Type 0} (g : Ghosts S D P G C) (e : elector.Ghosts L S
       }
 
   -- one more is over
-  pub one-over : (all rest next : List (Opening S L D)) (answers more : List (Answered S D P G C)) (o : Opening S L D) (a : Answered S D P G C) (now new : K) → rest ≡ o ∷ next → more ≡ answers ++ a ∷ []
+  pub one-over : (all rest next : List (Opening S L D P G C)) (answers more : List (Answered S D P G C)) (o : Opening S L D P G C) (a : Answered S D P G C) (now new : K) → rest ≡ o ∷ next → more ≡ answers ++ a ∷ []
       → AreOfOneMember g e s all
       → ((earlier : List (Try S L D P G C)) → AreOfOneMember g e s (o ∷ []) → MayLeaveOnly (k.calls now) (IsLeftByLives g e f s earlier)
       → MayLeaveOnly (k.calls new) (IsLeftByLives g e f s (earlier ++ tried (o ∷ []) (a ∷ []))))
@@ -176,7 +175,7 @@ module _ {S L D P G C K : Type 0} (g : Ghosts S D P G C) (e : elector.Ghosts L S
       → LivesOn all rest answers now → LivesOn all next more new
   one-over all rest next answers more o a now new rest_is more_is members told left so_far = record {
     over = so_far.over ++ o ∷ [];
-    split = so_far.split ∙ ap (λ (l : List (Opening S L D)). so_far.over ++ l) rest_is ∙ sym (append_assoc so_far.over (o ∷ []) next);
+    split = so_far.split ∙ ap (λ (l : List (Opening S L D P G C)). so_far.over ++ l) rest_is ∙ sym (append_assoc so_far.over (o ∷ []) next);
     each = ap length more_is ∙ omega (arith, length-append answers (a ∷ []), length-append so_far.over (o ∷ []), so_far.each);
     left = subst (λ (l : List (Answered S D P G C)). MayLeaveOnly (k.calls new) (Left (tried (so_far.over ++ o ∷ []) l))) (sym more_is)
         (subst (λ (l : List (Try S L D P G C)). MayLeaveOnly (k.calls new) (IsLeftByLives g e f s l)) told_is
@@ -186,13 +185,13 @@ module _ {S L D P G C K : Type 0} (g : Ghosts S D P G C) (e : elector.Ghosts L S
         (weaker (Left (tried so_far.over [] ++ tried (o ∷ []) [])) (left (before ++ tried so_far.over answers) one so_far.left) untold));
   }
     where
-      IsMember : Opening S L D → Type 0
+      IsMember : Opening S L D P G C → Type 0
       IsMember p = IsOfOneMember s (setup_by g e s.me p)
 
       one : AreOfOneMember g e s (o ∷ [])
       one = All-cons IsMember o [] (All-contains IsMember all o members
-          (subst (λ (l : List (Opening S L D)). Contains l o) (sym so_far.split)
-          (Contains-append_right so_far.over rest o (subst (λ (l : List (Opening S L D)). Contains l o) (sym rest_is) (Contains-head o next))))) (All-nil IsMember)
+          (subst (λ (l : List (Opening S L D P G C)). Contains l o) (sym so_far.split)
+          (Contains-append_right so_far.over rest o (subst (λ (l : List (Opening S L D P G C)). Contains l o) (sym rest_is) (Contains-head o next))))) (All-nil IsMember)
 
       told_is : (before ++ tried so_far.over answers) ++ tried (o ∷ []) (a ∷ []) ≡ before ++ tried (so_far.over ++ o ∷ []) (answers ++ a ∷ [])
       told_is = append_assoc before (tried so_far.over answers) (tried (o ∷ []) (a ∷ []))
@@ -207,22 +206,22 @@ module _ {S L D P G C K : Type 0} (g : Ghosts S D P G C) (e : elector.Ghosts L S
           (subst (λ (l : List (Try S L D P G C)). IsLeftByLives g e f s l image) (append_assoc before (tried so_far.over answers) (tried (o ∷ []) [])) is)
 
   -- all are over
-  module _ (all rest : List (Opening S L D)) (none : rest ≡ []) (answers : List (Answered S D P G C)) (now : K) (so_far : LivesOn all rest answers now) where
+  module _ (all rest : List (Opening S L D P G C)) (none : rest ≡ []) (answers : List (Answered S D P G C)) (now : K) (so_far : LivesOn all rest answers now) where
     over-all : so_far.over ≡ all
-    over-all = sym (append-nil so_far.over) ∙ ap (λ (l : List (Opening S L D)). so_far.over ++ l) (sym none) ∙ sym so_far.split
+    over-all = sym (append-nil so_far.over) ∙ ap (λ (l : List (Opening S L D P G C)). so_far.over ++ l) (sym none) ∙ sym so_far.split
 
     pub all-told : MayLeaveOnly (k.calls now) (Left (tried all answers))
-    all-told = subst (λ (l : List (Opening S L D)). MayLeaveOnly (k.calls now) (Left (tried l answers))) over-all so_far.left
+    all-told = subst (λ (l : List (Opening S L D P G C)). MayLeaveOnly (k.calls now) (Left (tried l answers))) over-all so_far.left
 
     pub all-left : LeavesOnly (k.calls on) (k.calls now) (Left (tried all []))
-    all-left = subst (λ (l : List (Opening S L D)). LeavesOnly (k.calls on) (k.calls now) (Left (tried l []))) over-all so_far.leaves
+    all-left = subst (λ (l : List (Opening S L D P G C)). LeavesOnly (k.calls on) (k.calls now) (Left (tried l []))) over-all so_far.leaves
 
 -- ---- the steps behind an opening
 
 module _ {S L D P G C K : Type 0} (g : Ghosts S D P G C) (e : elector.Ghosts L S D P G C) (k : disk.Ghosts K) (f : Formats S D P G C) (s : Setup S D C) (node : Node S L D K P G C) (new : K)
-    (closed : (h : History S D P G C) → NodeKeeps g e k f s node h → k.keeps → (read : List (List ℕ)) → MayBeRead k (One new) read → ReadsAs g f s read h) (keeps : k.keeps) where
+    (closed : (h : History S D P G C) → NodeKeeps g e k f s node h → k.keeps → (read : List (List ℕ)) → MayBeRead k (One new) read → ReadsAsKept g f s read h) (keeps : k.keeps) where
   -- an image that is left reads as the record
-  reads-closed : (h : History S D P G C) → NodeKeeps g e k f s node h → (image : List ℕ) → MayLeave (k.calls new) image → Reads image (map f.artifact (record_of h))
+  reads-closed : (h : History S D P G C) → NodeKeeps g e k f s node h → (image : List ℕ) → MayLeave (k.calls new) image → Reads image (map f.artifact (kept_of s.voter.length h))
   reads-closed h stands image left = let any = reads_any image in subst (λ (bodies : List (List ℕ)). Reads image bodies) (closed h stands keeps any.0 (image, left, any.1)) any.1
 
   -- by what a run answered
@@ -235,7 +234,7 @@ module _ {S L D P G C K : Type 0} (g : Ghosts S D P G C) (e : elector.Ghosts L S
         any.0,
         any.1,
         left_last k (IsReached g f s fails.runs.end event) (disks_of fails.before) (disks_of node) any.0
-            (book_leaves k (IsReached g f s fails.runs.end event) f.artifact (record_of fails.runs.end) (book_of fails.before) (book_of node) (fails.runs.keeps.core.ledger.journal keeps) (fails.any_moment keeps))
+            (book_leaves k (IsReached g f s fails.runs.end event) f.artifact (kept_of s.voter.length fails.runs.end) (book_of fails.before) (book_of node) (fails.runs.keeps.core.ledger.journal keeps) (fails.any_moment keeps))
             (subst (λ (d : Disks K). MayBeRead k d any.0) (sym is) (image, left, any.1)),
       ))
 

@@ -19,9 +19,9 @@ use Rattle.simplex_member.specs.Lives.{Broken, Course, IsCut, Lasting, Life, Liv
 use Rattle.simplex_member.specs.Member.{AreActionsOf, after}
 use Rattle.simplex_member.specs.Packet.{Formats}
 use Rattle.simplex_member.specs.Point.{History, Point}
-use Rattle.simplex_member.specs.Recorded.{record_of}
+use Rattle.simplex_member.specs.Recorded.{kept_of}
 use Rattle.simplex_member.specs.Refusals.{refused_deeds}
-use Rattle.simplex_member.specs.Setup.{IsOfOneMember, Setup, setup_of}
+use Rattle.simplex_member.specs.Setup.{IsOfOneMember, Setup, brought_by, setup_of}
 use Rattle.node_steps.specs.Opening.{early, open_tests}
 use Rattle.simplex_node.specs.declared.living.Answered.{Answered}
 use Rattle.simplex_node.specs.declared.living.Answered.TheVariants.{NotOpened, Opened}
@@ -29,11 +29,11 @@ use Rattle.simplex_node.specs.declared.living.Opening.{Opening}
 
 -- an opening that was tried, and what it answered; nothing where a crash may have come before that was told
 pub record Try (S L D P G C : Type 0) : Type 0 where
-  pub opening : Opening S L D
+  pub opening : Opening S L D P G C
   pub answer : Option (Answered S D P G C)
 
 -- the openings with their answers, of which those behind the last may not have been told
-abbrev pub tried : {S L D P G C : Type 0} → List (Opening S L D) → List (Answered S D P G C) → List (Try S L D P G C)
+abbrev pub tried : {S L D P G C : Type 0} → List (Opening S L D P G C) → List (Answered S D P G C) → List (Try S L D P G C)
 tried [] answers = []
 tried (o ∷ openings) [] = record { opening = o; answer = None } ∷ tried openings []
 tried (o ∷ openings) (a ∷ answers) = record { opening = o; answer = Some a } ∷ tried openings answers
@@ -98,39 +98,40 @@ module _ {S D P G C : Type 0} (g : Ghosts S D P G C) (f : Formats S D P G C) (s 
     pub left : List (Event D)
     pub split : events ≡ (turn_events turns ++ option_to_list (option_map (λ c. c.0) cut)) ++ left
     pub whole : fault ≡ None → (cut ≡ None) × (left ≡ [])
-    pub reads : Reads image (map f.artifact (record_of end))
+    pub reads : Reads image (map f.artifact (kept_of s.voter.length end))
 
 module _ {S L D P G C : Type 0} (g : Ghosts S D P G C) (e : elector.Ghosts L S D P G C) where
   -- how an opening sets the member of this index up
-  abbrev pub setup_by : ℕ → Opening S L D → Setup S D C
+  abbrev pub setup_by : ℕ → Opening S L D P G C → Setup S D C
   setup_by index o = setup_of g e o.config o.scheme.value o.elector index
 
   -- openings of the member that this is a setup of: what is fixed for good is the same in each
-  abbrev pub AreOfOneMember : Setup S D C → List (Opening S L D) → Type 0
+  abbrev pub AreOfOneMember : Setup S D C → List (Opening S L D P G C) → Type 0
   AreOfOneMember s openings = All (λ o. IsOfOneMember s (setup_by s.me o)) openings
 
   module _ (f : Formats S D P G C) (index : ℕ) where
-    -- a life behind an opening: set up by it, at its moment, with no floor, and handed a front of its events
-    pub record IsLifeOf (o : Opening S L D) (life : Life S D P G C) : Type 0 where
+    -- a life behind an opening: set up by it, with the finalization that it brings, if it does, at its moment, and handed a front of its
+    -- events
+    pub record IsLifeOf (o : Opening S L D P G C) (life : Life S D P G C) : Type 0 where
       pub setup : life.setup ≡ setup_by index o
-      pub brought : life.brought ≡ None
+      pub brought : life.brought ≡ brought_by o.config.floor
       pub now : opened_at life.course ≡ o.now
       pub left : List (Event D)
       pub events : o.events.items ≡ events_of life.course ++ left
 
     -- an opening over what lives have left may fail so: for its arguments, by the first that is wrong; or memory ran out, or the disk failed
-    abbrev pub FailsFor : Opening S L D → OpenFault → Type 0
+    abbrev pub FailsFor : Opening S L D P G C → OpenFault → Type 0
     FailsFor o why = IsFirst (open_tests g (setup_by index o) o.config o.now) (early why)
         × (early why ≡ None → (why ≡ open_fault.Memory) ⊎ (why ≡ open_fault.Device))
 
     -- where an opening answered this, no life was begun, or none that has left anything
-    abbrev pub BeginsNone : Opening S L D → Option (Answered S D P G C) → Type 0
+    abbrev pub BeginsNone : Opening S L D P G C → Option (Answered S D P G C) → Type 0
     BeginsNone o None = ⊤
     BeginsNone o (Some (NotOpened why)) = FailsFor o why
     BeginsNone o (Some (Opened first answers)) = ⊥
 
     -- and what a life has to do with that answer: it gave it; or it was cut off in the opening, for want of memory or by the disk
-    abbrev pub Gives : Opening S L D → Option (Answered S D P G C) → Life S D P G C → Type 0
+    abbrev pub Gives : Opening S L D P G C → Option (Answered S D P G C) → Life S D P G C → Type 0
     Gives o None life = ⊤
     Gives o (Some (NotOpened why)) life = FailsFor o why × (early why ≡ None) × (points : List (Point S D P G C)) × (life.course ≡ Broken o.now points)
     Gives o (Some (Opened first answers)) life = Tells g f life.setup o.events.items first.items answers.replies.items answers.fault life.course
@@ -155,7 +156,7 @@ module _ {S L D P G C : Type 0} (g : Ghosts S D P G C) (e : elector.Ghosts L S D
 
   -- what holds of each member of which these are openings, and whatever was tried before on a disk that its lives have left: by what
   -- they have left where more was tried
-  abbrev pub OverLives : {K : Type 0} → disk.Ghosts K → (ℕ → Formats S D P G C) → K → List (Opening S L D)
+  abbrev pub OverLives : {K : Type 0} → disk.Ghosts K → (ℕ → Formats S D P G C) → K → List (Opening S L D P G C)
       → ((List (Try S L D P G C) → List ℕ → Type 0) → Type 0) → Type 0
   OverLives k formats on openings Holds = (s : Setup S D C) (before : List (Try S L D P G C)) → g.own s.voter.scheme ≡ Some s.me
       → g.size s.voter.scheme ≤ 65535 → k.keeps → AreOfOneMember s openings

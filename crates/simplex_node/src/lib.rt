@@ -8,6 +8,7 @@ mod running;
 mod stepping;
 mod streaming;
 
+pub use journal_books::Disks;
 pub use living::{Answered, Opening, live};
 pub use node_steps::{
     MOST_OPTIMISTIC, Node, Owner, accountability, agreement, first_refused, headline,
@@ -16,10 +17,13 @@ pub use node_wire::{
     Answers, CountedReader, CountedWriter, EventInput, Sink, Source, StreamFault, read_event,
     write_event, write_out, write_reply,
 };
-pub use opening_io::open_io;
+pub use opening_io::{open_disks_io, open_io};
 pub use running::run;
-pub use simplex_member::{Action, Channel, Event, IoFault, NodeFault, OpenFault, Refusal, Reply};
+pub use simplex_member::{
+    Action, Channel, Event, IoFault, NodeFault, OpenFault, Refusal, Reply, SetupFault,
+};
 pub use streaming::run_io;
 pub use voter_rules::config::{
     Config, ConfigFault, ForwardPolicy, SkipBudget, SkipPolicy, check_config,
 };
+pub use voter_rules::{Floor, FloorFault, check_floor};

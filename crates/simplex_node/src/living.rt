@@ -15,19 +15,19 @@ use node_steps::Node;
 use node_wire::Answers;
 use simplex_member::{
     Action, Event, NodeFault, OpenFault, Speaks, never_contradicts, never_foreign,
-    what_is_kept_tells_all,
 };
 use std::alloc::{AllocError, Global};
 use std::rc::Rc;
 use types_core::{Digest, Scheme};
 use types_terms::Elector;
+use voter_rules::Floor;
 use voter_rules::config::Config;
 
 /// What a member's record is opened with, and the events that its node is handed then.
 #[derive(Drop)]
-pub struct Opening<S: Drop, L: Drop, D: Digest> {
-    /// How the node is set up.
-    pub config: Config<D>,
+pub struct Opening<S: Scheme<D> + Drop, L: Drop, D: Digest> {
+    /// How the node is set up, and what it starts from.
+    pub config: Config<Floor<S, D>>,
     /// The member's scheme.
     pub scheme: Rc<S>,
     /// Who leads.
@@ -51,10 +51,10 @@ pub enum Answered<S: Scheme<D>, D: Digest> {
 /// A member's lives, one after another: its record is opened, the node steps over the events, and the disk is opened anew. A step
 /// that fails ends its life, and an opening that fails begins none. Hands back what each opening answered, and the disk.
 ///
-/// Over what lives of the member model left, each opening that answered is a life of that model, set up by it, at its moment and
-/// with its events, and its actions and replies are those that the model has of that life. One that failed did so for its
-/// arguments, the first that is wrong; or memory ran out or the disk failed, and it may have been cut off behind the reading. What
-/// the disk holds then is what these lives have left.
+/// Over what lives of the member model left, each opening that answered is a life of that model, set up by it, with the finalization
+/// that it brings, at its moment and with its events, and its actions and replies are those that the model has of that life. One that
+/// failed did so for its arguments, the first that is wrong; or memory ran out or the disk failed, and it may have been cut off behind
+/// the reading. What the disk holds then is what these lives have left.
 ///
 /// A crash at any moment leaves what lives behind some of these openings have left, in their order. So another call over what a
 /// crash left goes on where that stood, and what the model's laws say of lives holds of every run of nodes over one disk.
@@ -106,7 +106,6 @@ fn live_once<S: Scheme<D> + Drop, L: Elector<S, D>, D: Digest, K: Disk>(
     a_disk_reads_as_one_record::<Artifact<S, D>>();
     never_foreign::<S, D>();
     never_contradicts::<S, D>();
-    what_is_kept_tells_all::<S, D>();
     let Opening {
         config,
         scheme,

@@ -4,13 +4,15 @@ ghost use Rattle.cli_settings.specs.Checking.{IsGood};
 
 use cli_audit::{Trouble, report};
 use cli_file::{fault_text, read_file};
-use cli_member::member_over;
-use cli_record::{hold_streams, record_at};
+use cli_member::{half_for, pair_over};
+use cli_record::{hold_streams, record_at, second_path, written_into_either};
 use cli_settings::Settings;
 use cli_toml::{FileFault, Key, MemberFile};
 use cli_tool::unopened;
+use journal_single::FileDisk;
 use simplex_node::{CountedReader, CountedWriter};
 use std::fs::File;
+use std::io::Write;
 use types_codec::write_whole;
 
 /// Runs the member whose settings are in the file at this path, and answers the status. Where `cuts`, all that stands behind its record's
@@ -53,27 +55,62 @@ fn unnamed(rt: &HostRuntime) -> u8 {
     }
 }
 
-/// Runs the member of these settings over the record in the file at this path, and answers the status.
+/// One of the two disks of a record, in the file at this path, of which is said what was found. What can't be of this member's record,
+/// and where not `cuts` also what a crash doesn't leave, stays as it is.
+///
+/// # Errors
+///
+/// The status, with words of why on `faults`.
+fn half_at<F: Write>(
+    rt: &HostRuntime,
+    settings: &Settings,
+    path: &str,
+    cuts: bool,
+    faults: &mut F,
+) -> Result<FileDisk, u8>
+    requires { IsGood settings.now }
+{
+    let mut disk = match record_at(rt.alloc(), rt, path, faults) {
+        Ok(disk) => disk,
+        Err(status) => return Err(status),
+    };
+    match half_for(rt.alloc(), settings, path, cuts, &mut disk, faults) {
+        Ok(()) => Ok(disk),
+        Err(status) => Err(status),
+    }
+}
+
+/// Runs the member of these settings over the record in the files at this path and behind it, and answers the status.
 fn run_over(rt: &HostRuntime, settings: &Settings, path: &str, cuts: bool) -> u8
     requires { IsGood settings.now }
 {
     let mut faults = rt.stderr();
-    let disk = match record_at(rt.alloc(), rt, path, &mut faults) {
+    let Ok(other) = second_path(rt.alloc(), path) else {
+        return report(Err(Trouble::Memory), &mut faults);
+    };
+    // What is told of one file mustn't be written into the other.
+    if let Some(status) = written_into_either(rt.alloc(), rt, path, other.as_str(), &mut faults) {
+        return status;
+    }
+    let first = match half_at(rt, settings, path, cuts, &mut faults) {
+        Ok(disk) => disk,
+        Err(status) => return status,
+    };
+    let second = match half_at(rt, settings, other.as_str(), cuts, &mut faults) {
         Ok(disk) => disk,
         Err(status) => return status,
     };
     let mut input = CountedReader::new(rt.stdin());
     let mut output = CountedWriter::new(rt.stdout());
-    let (status, disk) = member_over(
+    let (status, disks) = pair_over(
         rt.alloc(),
         settings,
-        path,
-        cuts,
-        disk,
+        first,
+        second,
         &mut input,
         &mut output,
         &mut faults,
     );
-    drop(disk);
+    drop(disks);
     status
 }

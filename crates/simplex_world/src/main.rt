@@ -15,6 +15,7 @@
 //! | `crash MEMBER VIEW CALLS DOWN` | in that view, behind so many calls of its disk, for so long |
 //! | `down MEMBER FROM UNTIL` | this member is dead then, as one that was killed |
 //! | `reopen T` | a correct member's node that enters no view for so long is closed and opened again |
+//! | `rewrite VIEWS` | each member's record is rewritten behind so many views that became final, over two disks |
 //! | `format text` or `json`, `lines all`, `some` or `none` | what is written |
 //!
 //! The word `--json` behind the program's name stands for `format json`; `--help` and `--version` tell of the program, and no other

@@ -19,14 +19,16 @@ pub(crate) enum Desk<P, Q> {
 
 impl<P: Answers, Q: Answers> Layer for Desk<P, Q> {
     fn reset(&mut self, words: &mut Words<'_>, alloc: Global) -> Result<(), Trouble> {
-        if words.word() != "node" {
-            return Err(Trouble::Unreadable);
-        }
+        let is_pair = match words.word() {
+            "node" => false,
+            "pair" => true,
+            _ => return Err(Trouble::Unreadable),
+        };
         let scheme = words.word();
         let setup = Setup::read(words)?;
         let desk = match scheme {
-            "plain" => Desk::Plain(P::new(alloc, setup)?),
-            "salted" => Desk::Salted(Q::new(alloc, setup)?),
+            "plain" => Desk::Plain(P::new(alloc, setup, is_pair)?),
+            "salted" => Desk::Salted(Q::new(alloc, setup, is_pair)?),
             _ => return Err(Trouble::Unreadable),
         };
         *self = desk;

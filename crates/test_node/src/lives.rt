@@ -7,21 +7,23 @@ use crate::spelling::{events_of, say_actions, say_reply};
 use simplex_member::{Action, Event, NodeFault, OpenFault, Reply};
 use std::alloc::Global;
 use test_words::{Committee, Say, Trouble, Words};
-use types_core::Sha256Digest;
+use types_core::{Duplicate, Sha256Digest};
+use voter_rules::Floor;
 use voter_rules::config::Config;
 
 /// `NOW EVENTS NOW EVENTS ..`, to the line's end.
 pub(crate) fn read_lives<S: Committee>(
     setup: &Setup,
+    floor: &Floor<S, Sha256Digest>,
     words: &mut Words<'_>,
     alloc: Global,
-) -> Result<Vec<Life<Config<Sha256Digest>, S, Event<Sha256Digest>>>, Trouble> {
+) -> Result<Vec<Life<Config<Floor<S, Sha256Digest>>, S, Event<Sha256Digest>>>, Trouble> {
     let mut lives = Vec::new(alloc);
     for _ in 0..u64::MAX {
         if !words.more() {
             break;
         }
-        lives.push(read_life(setup, words, alloc)?)?;
+        lives.push(read_life(setup, floor, words, alloc)?)?;
     }
     Ok(lives)
 }
@@ -29,13 +31,14 @@ pub(crate) fn read_lives<S: Committee>(
 /// `NOW EVENTS`.
 fn read_life<S: Committee>(
     setup: &Setup,
+    floor: &Floor<S, Sha256Digest>,
     words: &mut Words<'_>,
     alloc: Global,
-) -> Result<Life<Config<Sha256Digest>, S, Event<Sha256Digest>>, Trouble> {
+) -> Result<Life<Config<Floor<S, Sha256Digest>>, S, Event<Sha256Digest>>, Trouble> {
     let now = words.number()?;
     let events = read_events(setup, words, alloc)?;
     let scheme = setup.scheme(alloc)?;
-    let config = setup.config();
+    let config = setup.config(floor.duplicate(alloc)?);
     Ok(Life {
         config,
         scheme,

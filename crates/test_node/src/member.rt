@@ -7,18 +7,20 @@ use crate::medium::Medium;
 use crate::seat::Seat;
 use crate::setup::Setup;
 use crate::spelling::{event_of, say_actions, say_reply};
+use crate::starting::read_floor;
 use simplex_member::{Action, Event, Reply};
 use std::alloc::Global;
 use std::marker::PhantomData;
 use std::rc::Rc;
 use test_words::{Committee, Say, Trouble, Words};
-use types_core::Sha256Digest;
+use types_core::{Duplicate, Sha256Digest};
+use voter_rules::Floor;
 use voter_rules::config::Config;
 
 /// What the calls of a script are made on, whatever the member's scheme, its disk and its node.
 pub trait Answers: Drop {
-    /// A member that is set up so, with an empty disk. A committee that can't be is `condition`.
-    fn new(alloc: Global, setup: Setup) -> Result<Self, Trouble>;
+    /// A member that is set up so, with an empty disk, or with two. A committee that can't be is `condition`.
+    fn new(alloc: Global, setup: Setup, is_pair: bool) -> Result<Self, Trouble>;
 
     /// Makes the call of this name.
     fn answer(&mut self, name: &str, words: &mut Words<'_>, say: &mut Say) -> Result<(), Trouble>;
@@ -26,19 +28,19 @@ pub trait Answers: Drop {
 
 /// A member with its disk, or with two, which the node has while it is open.
 #[derive(Drop)]
-pub struct Member<S, K, N, T> {
+pub struct Member<S: Committee, K, N, T> {
     setup: Setup,
     disk: Option<K>,
     second: Option<K>,
     node: Option<N>,
-    scheme: PhantomData<S>,
+    floor: Floor<S, Sha256Digest>,
     seat: PhantomData<T>,
 }
 
 impl<S: Committee, K: Medium, N: Drop, T> Member<S, K, N, T>
 where
     T: Seat<
-        Config<Sha256Digest>,
+        Config<Floor<S, Sha256Digest>>,
         S,
         K,
         N,
@@ -61,6 +63,23 @@ where
         match &mut self.disk {
             Some(disk) => Ok(disk),
             None => Err(Trouble::Condition),
+        }
+    }
+
+    /// The second disk, where there is one, and no node is open on it.
+    fn second(&mut self) -> Result<&mut K, Trouble> {
+        match &mut self.second {
+            Some(disk) => Ok(disk),
+            None => Err(Trouble::Condition),
+        }
+    }
+
+    /// The first of the disks, 1, or the second, 2.
+    fn disk_of(&mut self, which: u64) -> Result<&mut K, Trouble> {
+        match which {
+            1 => self.disk(),
+            2 => self.second(),
+            _ => Err(Trouble::Unreadable),
         }
     }
 
@@ -101,7 +120,7 @@ where
         now: u64,
         say: &mut Say,
     ) -> Result<(), Trouble> {
-        let config = self.setup.config();
+        let config = self.setup.config(self.floor.duplicate(say.alloc)?);
         match T::open_pair(say.alloc, &self.setup, config, scheme, first, second, now) {
             Ok((node, actions)) => {
                 self.node = Some(node);
@@ -117,7 +136,7 @@ where
 
     /// Opens the one disk.
     fn open_one(&mut self, scheme: Rc<S>, disk: K, now: u64, say: &mut Say) -> Result<(), Trouble> {
-        let config = self.setup.config();
+        let config = self.setup.config(self.floor.duplicate(say.alloc)?);
         match T::open(say.alloc, &self.setup, config, scheme, disk, now) {
             Ok((node, actions)) => {
                 self.node = Some(node);
@@ -137,6 +156,12 @@ where
             Ok(reply) => say_reply(&reply, say),
             Err(fault) => say_fault(fault, say),
         }
+    }
+
+    /// `floor FLOOR`: what the openings start from that come.
+    fn start_from(&mut self, words: &mut Words<'_>, say: &mut Say) -> Result<(), Trouble> {
+        self.floor = read_floor(say.alloc, words, self.setup.members)?;
+        say.ok()
     }
 
     /// `event EVENT`.
@@ -175,6 +200,16 @@ where
         Ok(true)
     }
 
+    /// `rewrite`: the view that the record begins behind then, or `-`.
+    fn rewrite(&mut self, words: &Words<'_>, say: &mut Say) -> Result<(), Trouble> {
+        words.end()?;
+        match T::rewrite(self.node()?) {
+            Ok(Some(view)) => say.view(view),
+            Ok(None) => say.none(),
+            Err(fault) => say_fault(fault, say),
+        }
+    }
+
     /// `stream EVENTS`: the replies, one behind the other, and behind them why that ended before the events did.
     fn stream(&mut self, words: &mut Words<'_>, say: &mut Say) -> Result<(), Trouble> {
         let events = words.bytes(say.alloc)?;
@@ -190,7 +225,7 @@ where
 
     /// `live NOW EVENTS NOW EVENTS ..`: what each opening answered, with ` , ` between two.
     fn live(&mut self, words: &mut Words<'_>, say: &mut Say) -> Result<(), Trouble> {
-        let lives = read_lives(&self.setup, words, say.alloc)?;
+        let lives = read_lives(&self.setup, &self.floor, words, say.alloc)?;
         self.close();
         let Some(disk) = self.disk.take() else {
             return Err(Trouble::Condition);
@@ -250,11 +285,16 @@ where
         say.bytes(second.image())
     }
 
-    /// `fuse CALLS`, `fail_at CALLS`: of this name.
+    /// `fuse CALLS`, `fail_at CALLS`, `fuse DISK CALLS`, `fail_at DISK CALLS`: of this name.
     fn fail(&mut self, name: &str, words: &mut Words<'_>, say: &mut Say) -> Result<(), Trouble> {
-        let calls = words.number()?;
+        let number = words.number()?;
+        let (which, calls) = if words.more() {
+            (number, words.number()?)
+        } else {
+            (1, number)
+        };
         words.end()?;
-        let disk = self.disk()?;
+        let disk = self.disk_of(which)?;
         if name == "fuse" {
             disk.fuse(calls);
         } else {
@@ -288,7 +328,7 @@ where
 impl<S: Committee, K: Medium, N: Drop, T: Drop> Answers for Member<S, K, N, T>
 where
     T: Seat<
-        Config<Sha256Digest>,
+        Config<Floor<S, Sha256Digest>>,
         S,
         K,
         N,
@@ -297,14 +337,20 @@ where
         Reply<S, Sha256Digest>,
     >,
 {
-    fn new(alloc: Global, setup: Setup) -> Result<Self, Trouble> {
+    fn new(alloc: Global, setup: Setup, is_pair: bool) -> Result<Self, Trouble> {
         S::member_of(alloc, setup.members, setup.me, 0)?;
+        let disk = Some(K::holding(alloc, &[])?);
+        let second = if is_pair {
+            Some(K::holding(alloc, &[])?)
+        } else {
+            None
+        };
         Ok(Member {
             setup,
-            disk: Some(K::holding(alloc, &[])?),
-            second: None,
+            disk,
+            second,
             node: None,
-            scheme: PhantomData,
+            floor: Floor::Genesis(Sha256Digest::new([0; 32])),
             seat: PhantomData,
         })
     }
@@ -315,7 +361,9 @@ where
             "event" => self.event(words, say),
             "times" => self.times(words, say),
             "stream" => self.stream(words, say),
+            "rewrite" => self.rewrite(words, say),
             "live" => self.live(words, say),
+            "floor" => self.start_from(words, say),
             "disk" | "bytes" | "fuse" | "fail_at" => self.hold(name, words, say),
             _ => self.ask(name, words, say),
         }

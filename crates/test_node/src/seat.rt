@@ -61,6 +61,9 @@ pub trait Seat<C: Drop, S: Drop, K, N, E: Drop, A: Drop, R: Drop> {
     /// What it answers to an event.
     fn step(node: &mut N, event: E) -> Result<R, NodeFault>;
 
+    /// Rewrites its record: the view that it begins behind then, or `None` where nothing was rewritten.
+    fn rewrite(node: &mut N) -> Result<Option<View>, NodeFault>;
+
     /// Answers the events that these bytes spell, one behind the other, as those of a stream: appends the bytes of the replies,
     /// and tells why that ended before the events did.
     fn run(

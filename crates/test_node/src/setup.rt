@@ -3,7 +3,7 @@
 use std::alloc::Global;
 use std::rc::Rc;
 use test_words::{Committee, Trouble, Words};
-use types_core::{Epoch, Participant, Sha256Digest, TermLength, ViewDelta};
+use types_core::{Epoch, Participant, TermLength, ViewDelta};
 use types_terms::RoundRobin;
 use voter_rules::config::{Config, ForwardPolicy, SkipBudget, SkipPolicy};
 
@@ -145,11 +145,11 @@ impl Setup {
         }
     }
 
-    /// How the node is set up.
-    pub(crate) fn config(&self) -> Config<Sha256Digest> {
+    /// How the node is set up that starts from this.
+    pub(crate) fn config<F>(&self, floor: F) -> Config<F> {
         Config {
             epoch: self.epoch,
-            floor: Sha256Digest::new([0; 32]),
+            floor,
             leader_timeout: self.times.leader,
             certification_timeout: self.times.certification,
             timeout_retry: self.times.retry,

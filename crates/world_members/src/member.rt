@@ -4,7 +4,8 @@ ghost use Rattle.std.specs.Prelude.{◌≡◌, None, Some};
 
 use crate::liar::Liar;
 use crate::patience::{Patience, earlier, has_come};
-use crate::seat::Seat;
+use crate::seat::{Halt, Seat};
+use crate::upkeep::Upkeep;
 use std::alloc::{AllocError, Global};
 use std::cell::Cell;
 use std::rc::Rc;
@@ -46,6 +47,8 @@ pub struct Member<S: Committee, M: Seat<S>> {
     pub refused: u64,
     /// Whom it blocked.
     pub blocked: Vec<u32>,
+    /// When its host rewrites its record.
+    pub upkeep: Upkeep,
     fuse: Fuse,
     /// The moment that it was told last.
     told: u64,
@@ -83,6 +86,7 @@ impl<S: Committee, M: Seat<S>> Member<S, M> {
             finals: 0,
             refused: 0,
             blocked: Vec::new(alloc),
+            upkeep: Upkeep::new(None),
             fuse,
             told: 0,
             crashes: Vec::new(alloc),
@@ -92,9 +96,10 @@ impl<S: Committee, M: Seat<S>> Member<S, M> {
         }
     }
 
-    /// Sets up how it lies, when it crashes or is dead, and how long its host waits.
+    /// Sets up how it lies, when it crashes or is dead, how long its host waits, and when that rewrites the record.
     fn set_up(&mut self, alloc: Global, scenario: &Scenario) -> Result<(), Broken> {
         self.patience = Patience::new(scenario.reopen);
+        self.upkeep = Upkeep::new(scenario.rewrite);
         self.downs = downs_of(alloc, scenario, self.index)?;
         self.crashes = crashes_of(alloc, scenario, self.index)?;
         self.liar = liar_of(alloc, scenario, self.index)?;
@@ -226,11 +231,37 @@ impl<S: Committee, M: Seat<S>> Member<S, M> {
         is_behind
     }
 
-    /// It crashed, and is opened again after a while. How many bytes its disk has.
+    /// It crashed, and is opened again after a while. How many bytes its disks have.
     pub fn go_down(&mut self, now: u64) -> usize {
         self.due = Some(now.saturating_add(self.down));
         self.patience.forget();
         self.seat.go_down()
+    }
+
+    /// Its record was opened, and begins behind this view.
+    pub fn begin_behind(&mut self, floor: u64) {
+        self.upkeep.begin(floor);
+    }
+
+    /// Its host rewrites its record, where enough became final since it last did: the view that it begins behind from now on, where that
+    /// changed.
+    pub fn keep_short(&mut self) -> Result<Option<u64>, Halt> {
+        let last = self.seat.last_finalized();
+        if !self.upkeep.is_due(last) {
+            return Ok(None);
+        }
+        match self.seat.rewrite() {
+            Ok(floor) => {
+                self.upkeep.note(last, floor);
+                Ok(floor)
+            }
+            Err(halt) => Err(halt),
+        }
+    }
+
+    /// A crash came inside a rewrite of its record.
+    pub fn note_torn(&mut self) {
+        self.upkeep.tear();
     }
 
     /// Whether it is seen now in a view in which it wasn't seen last.

@@ -33,7 +33,7 @@ impl<T: Drop> From<AllocFailed<T>> for Halt {
 
 /// A member's node, or the disk that is left of it.
 pub trait Seat<S: Committee>: Drop {
-    /// A member that is down, with an empty disk under this fuse.
+    /// A member that is down, with an empty disk under this fuse; or with two under it, where records are rewritten.
     fn new(alloc: Global, scenario: &Scenario, index: u32, fuse: Fuse) -> Result<Self, Broken>;
 
     /// Opens its record, where it is down: what is to be done.
@@ -42,10 +42,13 @@ pub trait Seat<S: Committee>: Drop {
     /// Takes an event, where it is up.
     fn step(&mut self, event: Event<Sha256Digest>) -> Result<Reply<S, Sha256Digest>, Halt>;
 
-    /// Its node is closed, if it is up. What its disk holds stays, and so does how many calls that lets through.
+    /// Rewrites its record, where it is up: the view of the finalization that it begins with from now on, or none where nothing changed.
+    fn rewrite(&mut self) -> Result<Option<u64>, Halt>;
+
+    /// Its node is closed, if it is up. What its disks hold stays, and so does how many calls these let through.
     fn close(&mut self);
 
-    /// It is down from now on, and its disk lets all calls through again. How many bytes that has.
+    /// It is down from now on, and its disks let all calls through again. How many bytes they have.
     fn go_down(&mut self) -> usize;
 
     /// Whether it is up.

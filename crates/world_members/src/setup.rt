@@ -2,10 +2,10 @@
 
 ghost use Rattle.std.specs.Prelude.{◌<◌};
 
-use types_core::{Epoch, Sha256Digest, TermLength, ViewDelta};
+use types_core::{Epoch, TermLength, ViewDelta};
 use types_terms::elector::RoundRobin;
 use voter_rules::config::{Config, ForwardPolicy, SkipBudget, SkipPolicy};
-use world_network::{Times, genesis};
+use world_network::Times;
 
 /// Who leads: all in turn, a term each.
 pub fn rotation_of(times: &Times) -> RoundRobin {
@@ -29,11 +29,11 @@ fn length_of(times: &Times) -> u32
     }
 }
 
-/// How each node is set up.
-pub fn config_of(times: &Times) -> Config<Sha256Digest> {
+/// How each node is set up that starts from this.
+pub fn config_of<F>(times: &Times, floor: F) -> Config<F> {
     Config {
         epoch: Epoch::zero(),
-        floor: genesis(),
+        floor,
         leader_timeout: times.leader,
         certification_timeout: times.certification,
         timeout_retry: times.retry,

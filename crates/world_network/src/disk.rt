@@ -12,7 +12,10 @@ use test_schemes::Chance;
 /// A fuse that never blows.
 pub const NO_FUSE: u64 = u64::MAX;
 
-/// How many calls a disk lets through. Its member holds the same one, and sets it while a node has the disk.
+/// A fuse that has blown.
+const BLOWN: u64 = u64::MAX - 1;
+
+/// How many calls the disks of a member let through, all together. The member holds the same one, and sets it while a node has them.
 pub type Fuse = Rc<Cell<u64>>;
 
 /// What was written since the last sync, of which a crash may leave any part.
@@ -22,6 +25,8 @@ struct Loose {
     at: usize,
     /// What stood there, up to the end that the disk had.
     before: Vec<u8>,
+    /// How many bytes the disk had.
+    len: usize,
 }
 
 /// What comes of a call.
@@ -42,22 +47,24 @@ struct Held {
     bytes: Vec<u8>,
     loose: Option<Loose>,
     fuse: Fuse,
-    is_down: bool,
+    /// Whether a crash inside a sync leaves all that was there before the last write. Else it may take what stands behind that write too,
+    /// which a record over one disk bears, whose last entry stands there.
+    is_exact: bool,
     chance: Chance,
 }
 
 impl Held {
     /// What comes of the next call, which is counted.
     fn admission(&mut self) -> Admission {
-        if self.is_down {
-            return Admission::Down;
-        }
         let left = self.fuse.get();
         if left == NO_FUSE {
             return Admission::Through;
         }
+        if left == BLOWN {
+            return Admission::Down;
+        }
         if left == 0 {
-            self.is_down = true;
+            self.fuse.set(BLOWN);
             return Admission::CutOff;
         }
         self.fuse.set(left.saturating_sub(1));
@@ -158,7 +165,8 @@ impl Held {
         if self.fuse.get() != NO_FUSE {
             let end = at.checked_add(bytes.len())?.min(self.bytes.len());
             let before = Vec::from_slice(self.alloc, self.bytes.get(at..end)?).ok()?;
-            self.loose = Some(Loose { at, before });
+            let len = self.bytes.len();
+            self.loose = Some(Loose { at, before, len });
         }
         self.put(at, bytes)
     }
@@ -172,8 +180,9 @@ impl Held {
 
     /// What was written since the last sync stands in part.
     fn tear(&mut self) -> Option<()> {
-        let Loose { at, before } = self.loose.take()?;
-        let end = at.checked_add(before.len())?;
+        let Loose { at, before, len } = self.loose.take()?;
+        let over = at.checked_add(before.len())?;
+        let end = if self.is_exact { over.max(len) } else { over };
         let fresh = self.bytes.len().checked_sub(end)?;
         if self.chance.below(2) == 0 {
             self.put_over(at, &before)?;
@@ -185,7 +194,7 @@ impl Held {
 }
 
 /// A disk in memory that lets some calls through. The next is cut off: a write, or what was written and not synced by then, stands
-/// in part, and each further call fails until the disk is mended.
+/// in part, and each further call of a disk under this fuse fails until it is mended.
 #[derive(Drop)]
 pub struct TornDisk {
     held: Held,
@@ -193,15 +202,16 @@ pub struct TornDisk {
 }
 
 impl TornDisk {
-    /// An empty disk with this fuse. Which part of a write stands rests on the seed.
-    pub fn new(alloc: Global, fuse: Fuse, seed: u64) -> Self {
+    /// An empty disk with this fuse. Which part of a write stands rests on the seed. An exact one loses in a crash nothing that stood
+    /// there before the last write.
+    pub fn new(alloc: Global, fuse: Fuse, seed: u64, is_exact: bool) -> Self {
         TornDisk {
             held: Held {
                 alloc,
                 bytes: Vec::new(alloc),
                 loose: None,
                 fuse,
-                is_down: false,
+                is_exact,
                 chance: Chance::seeded(seed),
             },
             failures: 0,
@@ -217,7 +227,6 @@ impl TornDisk {
     pub fn mend(&mut self) {
         self.held.fuse.set(NO_FUSE);
         self.held.loose = None;
-        self.held.is_down = false;
     }
 
     /// What came of a call, where a failure is a fault that is counted.

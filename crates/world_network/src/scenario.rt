@@ -190,6 +190,8 @@ pub struct Scenario {
     pub downs: Vec<Down>,
     /// For how many milliseconds a correct member may enter no view before its host closes the node and opens it again, if it does.
     pub reopen: Option<u64>,
+    /// Behind how many views that became final a member's host rewrites its record, if it does. Then records stand on two disks.
+    pub rewrite: Option<u64>,
     /// Whether lines are written as JSON.
     pub json: bool,
     /// Which lines are written.
@@ -216,6 +218,7 @@ impl Scenario {
             cuts: Vec::new(alloc),
             downs: Vec::new(alloc),
             reopen: None,
+            rewrite: None,
             json,
             detail: Detail::All,
         }
@@ -319,6 +322,7 @@ impl Scenario {
             "crash" => return self.add_crash(words),
             "down" => return self.add_down(words),
             "reopen" => self.reopen = Some(above_zero(words)?),
+            "rewrite" => self.rewrite = Some(above_zero(words)?),
             _ => return Err(Refusal::UnknownLine),
         }
         Ok(())

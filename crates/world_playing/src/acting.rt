@@ -229,8 +229,22 @@ impl<S: Committee, M: Seat<S>> World<S, M> {
             return Ok(());
         }
         self.reports.add(activity)?;
-        if !self.is_opening && self.chronicle.tells_all() {
-            self.chronicle.tell_report(me, activity)?;
+        if self.chronicle.tells_all() {
+            self.tell_report(me, activity)?;
+        }
+        Ok(())
+    }
+
+    /// Tells what a member reported. What an opening found is told where records are rewritten.
+    fn tell_report(
+        &mut self,
+        member: u32,
+        activity: &Activity<S, Sha256Digest>,
+    ) -> Result<(), Broken> {
+        if !self.is_opening {
+            self.chronicle.tell_report(member, activity)?;
+        } else if self.scenario.rewrite.is_some() {
+            self.chronicle.tell_found(member, activity)?;
         }
         Ok(())
     }

@@ -3,6 +3,7 @@
 use std::alloc::{AllocError, Global};
 use std::io::Write;
 use types_core::{Proposal, Sha256Digest, Viewable, faults};
+use world_members::Upkeep;
 use world_network::{Broken, Ground, Scenario, Teller, Ways, number_of};
 
 /// The lines of a run.
@@ -54,7 +55,17 @@ impl Chronicle {
         self.teller.number("faults", u64::from(faults(members)))?;
         self.teller.number("seed", scenario.seed)?;
         self.teller.number("views", scenario.views)?;
+        self.tell_rewriting(scenario)?;
         self.teller.end()
+    }
+
+    /// Where records are rewritten: how many views a term has, and behind how many final ones each is.
+    fn tell_rewriting(&mut self, scenario: &Scenario) -> Result<(), AllocError> {
+        let Some(rewrite) = scenario.rewrite else {
+            return Ok(());
+        };
+        self.teller.number("term", scenario.times.length)?;
+        self.teller.number("rewrite", rewrite)
     }
 
     /// A line for each way in which a member lies.
@@ -80,15 +91,32 @@ impl Chronicle {
         self.teller.end()
     }
 
-    /// A member was opened.
-    pub fn tell_opened(&mut self, member: u32, life: u64, view: u64) -> Result<(), AllocError> {
+    /// A member was opened, in which view; and where records are rewritten, behind which view its own begins.
+    pub fn tell_opened(
+        &mut self,
+        member: u32,
+        life: u64,
+        view: u64,
+        upkeep: &Upkeep,
+    ) -> Result<(), AllocError> {
         if !self.teller.tells_some() {
             return Ok(());
         }
         self.begin(member, "opened")?;
         self.teller.number("life", life)?;
         self.teller.number("view", view)?;
+        if upkeep.is_on() {
+            self.teller.number("floor", upkeep.floor)?;
+        }
         self.teller.end()
+    }
+
+    /// A member's host rewrote its record, which begins behind this view from now on.
+    pub fn tell_rewrote(&mut self, member: u32, floor: u64) -> Result<(), AllocError> {
+        if !self.teller.tells_some() {
+            return Ok(());
+        }
+        self.tell_number(member, "rewrote", "floor", floor)
     }
 
     /// A member entered a view.
@@ -99,12 +127,22 @@ impl Chronicle {
         self.tell_number(member, "entered", "view", view)
     }
 
-    /// A member crashed, and its disk has so many bytes.
-    pub fn tell_crashed(&mut self, member: u32, bytes: u64) -> Result<(), AllocError> {
+    /// A member crashed, inside a rewrite of its record or not, and its disks have so many bytes.
+    pub fn tell_crashed(
+        &mut self,
+        member: u32,
+        bytes: u64,
+        is_rewriting: bool,
+    ) -> Result<(), AllocError> {
         if !self.teller.tells_some() {
             return Ok(());
         }
-        self.tell_number(member, "crashed", "bytes", bytes)
+        self.begin(member, "crashed")?;
+        self.teller.number("bytes", bytes)?;
+        if is_rewriting {
+            self.teller.word("in", "rewrite")?;
+        }
+        self.teller.end()
     }
 
     /// A member is dead from now on, and is opened again at that moment.

@@ -78,6 +78,7 @@ fn standing_of<S: Committee, M: Seat<S>>(member: &Member<S, M>) -> Standing {
         refused: member.refused,
         blocked: member.blocked.len() as u64,
         lies,
+        upkeep: member.upkeep,
     }
 }
 

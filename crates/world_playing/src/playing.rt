@@ -150,7 +150,7 @@ impl Script {
     fn close<W: Write>(&mut self, output: &mut W) -> Result<Taken, Broken> {
         let next = Scenario::new(self.alloc, self.is_json);
         let scenario = std::mem::replace(&mut self.scenario, next);
-        if check_config(&config_of(&scenario.times), scenario.members).is_err() {
+        if check_config(&config_of(&scenario.times, ()), scenario.members).is_err() {
             self.scenario.json = scenario.json;
             return self.refuse(Refusal::Times, output);
         }

@@ -5,6 +5,9 @@ use simplex_messages::{Activity, Nullify};
 use std::alloc::AllocError;
 use types_core::{Attributable, Proposal, Scheme, Sha256Digest, Viewable};
 
+/// The word for what an opening found.
+const FOUND: &str = "found";
+
 impl Chronicle {
     /// A member reported something: its own votes, certificates, good verdicts and evidence are told.
     pub fn tell_report<S: Scheme<Sha256Digest>>(
@@ -71,6 +74,44 @@ impl Chronicle {
             }
             Activity::Certification(it) => self.tell_proposal(member, "judged", &it.proposal),
             evidence => self.tell_view(member, "saw", "evidence", evidence.view().get()),
+        }
+    }
+    /// An opening found something in a member's record.
+    pub fn tell_found<S: Scheme<Sha256Digest>>(
+        &mut self,
+        member: u32,
+        activity: &Activity<S, Sha256Digest>,
+    ) -> Result<(), AllocError> {
+        match activity {
+            Activity::Notarize(it) => self.tell_on(member, FOUND, "notarize", &it.proposal),
+            Activity::Finalize(it) => self.tell_on(member, FOUND, "finalize", &it.proposal),
+            Activity::Nullify(it) => {
+                let view = it.round.view.get();
+                self.tell_view(member, FOUND, "nullify", view)
+            }
+            certificate => self.tell_found_certificate(member, certificate),
+        }
+    }
+
+    /// An opening found a certificate or a good verdict.
+    fn tell_found_certificate<S: Scheme<Sha256Digest>>(
+        &mut self,
+        member: u32,
+        activity: &Activity<S, Sha256Digest>,
+    ) -> Result<(), AllocError> {
+        match activity {
+            Activity::Notarization(it) => {
+                self.tell_on(member, FOUND, "notarization", &it.proposal)
+            }
+            Activity::Finalization(it) => {
+                self.tell_on(member, FOUND, "finalization", &it.proposal)
+            }
+            Activity::Nullification(it) => {
+                let view = it.round.view.get();
+                self.tell_view(member, FOUND, "nullification", view)
+            }
+            Activity::Certification(it) => self.tell_on(member, FOUND, "verdict", &it.proposal),
+            evidence => self.tell_view(member, FOUND, "evidence", evidence.view().get()),
         }
     }
 }

@@ -2,6 +2,7 @@
 
 use crate::chronicle::Chronicle;
 use std::alloc::AllocError;
+use world_members::Upkeep;
 
 /// Where a member stands.
 #[derive(Clone, Copy)]
@@ -22,6 +23,8 @@ pub struct Standing {
     pub blocked: u64,
     /// How many packets were lies, if it is a liar.
     pub lies: Option<u64>,
+    /// What its host did for its record.
+    pub upkeep: Upkeep,
 }
 
 /// The sums of a run.
@@ -71,7 +74,18 @@ impl Chronicle {
         self.teller.number("refused", standing.refused)?;
         self.teller.number("blocked", standing.blocked)?;
         self.teller.number("lies", standing.lies.unwrap_or(0))?;
+        self.tell_upkeep(&standing.upkeep)?;
         self.teller.end()
+    }
+
+    /// Where records are rewritten: behind which view its own begins, how often it was rewritten, and how often a crash came inside that.
+    fn tell_upkeep(&mut self, upkeep: &Upkeep) -> Result<(), AllocError> {
+        if !upkeep.is_on() {
+            return Ok(());
+        }
+        self.teller.number("floor", upkeep.floor)?;
+        self.teller.number("rewrites", upkeep.rewrites)?;
+        self.teller.number("torn", upkeep.torn)
     }
 
     /// The last line: the sums, and the status.

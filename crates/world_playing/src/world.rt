@@ -3,11 +3,12 @@
 use crate::chronicle::Chronicle;
 use crate::reports::Reports;
 use simplex_member::{Action, Event, Reply};
+use simplex_messages::Activity;
 use std::alloc::Global;
 use std::io::Write;
 use test_schemes::Chance;
 use test_words::Committee;
-use types_core::Sha256Digest;
+use types_core::{Sha256Digest, Viewable};
 use world_members::{Halt, Member, Seat, Turn};
 use world_network::{Broken, Chain, Network, Payloads, Scenario};
 
@@ -253,20 +254,25 @@ impl<S: Committee, M: Seat<S>> World<S, M> {
 
     /// A member was opened, and this is to be done.
     fn begin(&mut self, place: usize, deeds: &[Action<S, Sha256Digest>]) -> Result<(), Broken> {
-        self.tell_opened(place)?;
+        self.tell_opened(place, floor_of(deeds))?;
         self.is_opening = true;
         let done = self.follow(place, deeds);
         self.is_opening = false;
         done
     }
 
-    /// A member was opened.
-    fn tell_opened(&mut self, place: usize) -> Result<(), Broken> {
-        let Some(member) = self.members.get(place) else {
+    /// A member was opened, over a record that begins behind this view.
+    fn tell_opened(&mut self, place: usize, floor: u64) -> Result<(), Broken> {
+        let Some(member) = self.members.get_mut(place) else {
             return Ok(());
         };
-        let view = member.seat.current_view();
-        self.chronicle.tell_opened(member.index, member.life, view)?;
+        member.begin_behind(floor);
+        self.chronicle.tell_opened(
+            member.index,
+            member.life,
+            member.seat.current_view(),
+            &member.upkeep,
+        )?;
         Ok(())
     }
 
@@ -295,19 +301,37 @@ impl<S: Committee, M: Seat<S>> World<S, M> {
     fn halt(&mut self, place: usize, halt: Halt) -> Result<(), Broken> {
         match halt {
             Halt::Idle => Ok(()),
-            Halt::Crashed => self.crash(place),
+            Halt::Crashed => self.crash(place, false),
             Halt::Lost => self.lose(place),
             Halt::Broken(broken) => Err(broken),
         }
     }
 
-    /// Does what was handed out, and sees whether the member has entered a view.
+    /// Does what was handed out, sees whether the member has entered a view, and has its host rewrite the record if that is due.
     fn follow(&mut self, place: usize, deeds: &[Action<S, Sha256Digest>]) -> Result<(), Broken> {
         if let Some(member) = self.members.get_mut(place) {
             member.due = None;
         }
         self.act_all(place, deeds)?;
-        self.look_at(place)
+        self.look_at(place)?;
+        self.keep_short(place)
+    }
+
+    /// Has a member's host rewrite its record, where enough became final since it last did.
+    fn keep_short(&mut self, place: usize) -> Result<(), Broken> {
+        let Some(member) = self.members.get_mut(place) else {
+            return Ok(());
+        };
+        let index = member.index;
+        match member.keep_short() {
+            Ok(None) => Ok(()),
+            Ok(Some(floor)) => {
+                self.chronicle.tell_rewrote(index, floor)?;
+                Ok(())
+            }
+            Err(Halt::Crashed) => self.crash(place, true),
+            Err(halt) => self.halt(place, halt),
+        }
     }
 
     /// Counts an event that a test refused.
@@ -330,12 +354,16 @@ impl<S: Committee, M: Seat<S>> World<S, M> {
         Ok(())
     }
 
-    /// A member crashed.
-    fn crash(&mut self, place: usize) -> Result<(), Broken> {
+    /// A member crashed, inside a rewrite of its record or not.
+    fn crash(&mut self, place: usize, is_rewriting: bool) -> Result<(), Broken> {
         let now = self.chronicle.now;
         if let Some(member) = self.members.get_mut(place) {
+            if is_rewriting {
+                member.note_torn();
+            }
             let size = member.go_down(now);
-            self.chronicle.tell_crashed(member.index, size as u64)?;
+            self.chronicle
+                .tell_crashed(member.index, size as u64, is_rewriting)?;
         }
         Ok(())
     }
@@ -358,6 +386,19 @@ fn members_of<S: Committee, M: Seat<S>>(
         members.push(Member::new(alloc, scenario, index)?)?;
     }
     Ok(members)
+}
+
+/// The view that a record begins behind, by what its opening handed out: the first artifact of it is reported first.
+fn floor_of<S: Committee>(deeds: &[Action<S, Sha256Digest>]) -> u64 {
+    for deed in deeds {
+        if let Action::Report(activity) = deed {
+            return match activity {
+                Activity::Finalization(it) => it.proposal.view().get(),
+                _ => 0,
+            };
+        }
+    }
+    0
 }
 
 /// The index of the member at a place.

@@ -5,34 +5,39 @@ ghost use Rattle.std.specs.Prelude.{◌≡◌};
 
 use crate::medium::Medium;
 use crate::turns::Turns;
+use journal_books::Disks;
 use node_steps::Node;
 use simplex_member::{Action, Event, NodeFault, OpenFault, Reply};
 use std::alloc::Global;
 use std::rc::Rc;
 use test_words::Committee;
 use types_core::Sha256Digest;
+use voter_rules::Floor;
 use world_members::{Halt, Seat, config_of, member_of};
-use world_network::{Broken, Fuse, Scenario, Times};
+use world_network::{Broken, Fuse, Scenario, Times, genesis};
 
-/// A member's disk, and its node while that is open on it.
+/// How far the seed of a second disk lies behind that of the first.
+const SECOND: u64 = 1_000_033;
+
+/// A member's disks, and its node while that is open on them.
 #[derive(Drop)]
 pub struct Keeper<S: Committee, L: Turns<S>, K: Medium> {
     alloc: Global,
     members: u32,
     index: u32,
     times: Times,
-    disk: Option<K>,
+    disks: Option<Disks<K>>,
     node: Option<Node<S, L, Sha256Digest, K>>,
 }
 
 impl<S: Committee, L: Turns<S>, K: Medium> Keeper<S, L, K> {
-    /// Opens the disk as this member of the committee.
+    /// Opens the disks as this member of the committee.
     fn open_as(&mut self, scheme: S, now: u64) -> Result<Vec<Action<S, Sha256Digest>>, Halt> {
         let elector = L::among(self.alloc, &self.times, scheme.participants())?;
         self.open_with(Rc::new(self.alloc, scheme)?, elector, now)
     }
 
-    /// Opens the disk, where this decides who leads.
+    /// Opens the disks, where this decides who leads.
     fn open_with(
         &mut self,
         scheme: Rc<S>,
@@ -41,24 +46,44 @@ impl<S: Committee, L: Turns<S>, K: Medium> Keeper<S, L, K> {
     ) -> Result<Vec<Action<S, Sha256Digest>>, Halt>
         requires { L.built_for elector (S.size scheme.value) }
     {
-        let Some(disk) = self.disk.take() else {
+        let Some(disks) = self.disks.take() else {
             return Err(Halt::Idle);
         };
-        match Node::open(
-            self.alloc,
-            config_of(&self.times),
-            scheme,
-            elector,
-            disk,
-            now,
-        ) {
+        match self.open_over(scheme, elector, disks, now) {
             Ok((node, actions)) => {
                 self.node = Some(node);
                 Ok(actions)
             }
-            Err((fault, disk)) => {
-                self.disk = Some(disk);
+            Err((fault, disks)) => {
+                self.disks = Some(disks);
                 Err(not_opened(fault))
+            }
+        }
+    }
+
+    /// The node over these disks and its first actions, or the disks behind an opening that failed.
+    fn open_over(
+        &self,
+        scheme: Rc<S>,
+        elector: L,
+        disks: Disks<K>,
+        now: u64,
+    ) -> Result<(Node<S, L, Sha256Digest, K>, Vec<Action<S, Sha256Digest>>), (OpenFault, Disks<K>)>
+        requires { L.built_for elector (S.size scheme.value) }
+    {
+        let config = config_of(&self.times, Floor::Genesis(genesis()));
+        match disks {
+            Disks::One(disk) => {
+                match Node::open(self.alloc, config, scheme, elector, disk, now) {
+                    Ok(opened) => Ok(opened),
+                    Err((fault, disk)) => Err((fault, Disks::One(disk))),
+                }
+            }
+            Disks::Two(first, second) => {
+                match Node::open_pair(self.alloc, config, scheme, elector, first, second, now) {
+                    Ok(opened) => Ok(opened),
+                    Err((fault, first, second)) => Err((fault, Disks::Two(first, second))),
+                }
             }
         }
     }
@@ -66,7 +91,7 @@ impl<S: Committee, L: Turns<S>, K: Medium> Keeper<S, L, K> {
     /// Closes the node, if it is open.
     fn close_node(&mut self) {
         if let Some(node) = self.node.take() {
-            self.disk = disk_of(node);
+            self.disks = Some(node.into_disks());
         }
     }
 }
@@ -80,7 +105,7 @@ impl<S: Committee, L: Turns<S>, K: Medium> Seat<S> for Keeper<S, L, K> {
             members: scenario.members,
             index,
             times: scenario.times,
-            disk: Some(K::under(alloc, fuse, seed)),
+            disks: Some(disks_of(alloc, scenario, fuse, seed)?),
             node: None,
         })
     }
@@ -102,17 +127,25 @@ impl<S: Committee, L: Turns<S>, K: Medium> Seat<S> for Keeper<S, L, K> {
         }
     }
 
+    fn rewrite(&mut self) -> Result<Option<u64>, Halt> {
+        let Some(node) = &mut self.node else {
+            return Err(Halt::Idle);
+        };
+        match node.rewrite() {
+            Ok(Some(view)) => Ok(Some(view.get())),
+            Ok(None) => Ok(None),
+            Err(fault) => Err(not_stepped(fault)),
+        }
+    }
+
     fn close(&mut self) {
         self.close_node();
     }
 
     fn go_down(&mut self) -> usize {
         self.close_node();
-        match &mut self.disk {
-            Some(disk) => {
-                disk.mend();
-                disk.size()
-            }
+        match &mut self.disks {
+            Some(disks) => mended(disks),
             None => 0,
         }
     }
@@ -136,13 +169,34 @@ impl<S: Committee, L: Turns<S>, K: Medium> Seat<S> for Keeper<S, L, K> {
     }
 }
 
-/// The disk that a node stands on, where that is one.
-fn disk_of<S: Committee, L: Turns<S>, K: Medium>(node: Node<S, L, Sha256Digest, K>) -> Option<K> {
-    if node.is_pair() {
-        drop(node.into_disks());
-        return None;
+/// The empty disks of a member: two where records are rewritten. They share a fuse, so that the calls of both are counted together.
+fn disks_of<K: Medium>(
+    alloc: Global,
+    scenario: &Scenario,
+    fuse: Fuse,
+    seed: u64,
+) -> Result<Disks<K>, Broken> {
+    if scenario.rewrite.is_none() {
+        return Ok(Disks::One(K::under(alloc, fuse, seed, false)));
     }
-    Some(node.close())
+    let first = K::under(alloc, fuse.clone()?, seed, true);
+    let second = K::under(alloc, fuse, seed.wrapping_add(SECOND), true);
+    Ok(Disks::Two(first, second))
+}
+
+/// Lets all calls of disks through again. How many bytes they have.
+fn mended<K: Medium>(disks: &mut Disks<K>) -> usize {
+    match disks {
+        Disks::One(disk) => {
+            disk.mend();
+            disk.size()
+        }
+        Disks::Two(first, second) => {
+            first.mend();
+            second.mend();
+            first.size().saturating_add(second.size())
+        }
+    }
 }
 
 /// What came of a step that failed.

@@ -1,4 +1,4 @@
-//! The seats of `simplex_world`'s members: a node over a disk that is cut off, whatever its scheme, whoever leads.
+//! The seats of `simplex_world`'s members: a node over a disk that is cut off, or over two, whatever its scheme, whoever leads.
 #![tactic(auto)]
 
 mod keeper;

@@ -65,7 +65,13 @@ impl Told {
                 "queue": queue,
             })
         });
-        let record = fs::metadata(&self.record).map_or(0, |record| record.len());
+        let mut second = self.record.clone().into_os_string();
+        second.push(".2");
+        let files = [self.record.clone().into_os_string(), second];
+        let record: u64 = files
+            .iter()
+            .map(|file| fs::metadata(file).map_or(0, |found| found.len()))
+            .sum();
         json!({
             "member": self.me,
             "members": self.members,

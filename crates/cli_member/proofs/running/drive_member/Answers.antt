@@ -7,7 +7,7 @@ returns-clause-comes_to g c =
     let served = rw (c.config.ensures, committee_is _ _ _ _ c.in-Ok.ensures.base c.in-Ok.ensures.members c.in-Ok.ensures.me) at c.serve_over.ensures.serves in
     led_by c.args.settings.now.committee c.in-Ok-elector.elector _ _
     (record { order = c.in-Ok-elector.ensures.order; terms = c.in-Ok-elector.ensures.terms })
-    (comes_by _ c.args.settings.now.member c.serve_over.result.0 _ _ refl served)
+    (comes_by _ c.args.settings.now.member c.serve_over.result.0 _ _ _ _ refl served)
 
 pub returns-clause-streams : goal.returns-clause-streams
 returns-clause-streams g c = c.serve_over.ensures.streams

@@ -40,5 +40,9 @@ returns-clause-comes_to g c =
         told = c.tell.ensures.told;
       },
       c.drive_member-ended.ensures.streams,
-      c.drive_member-ended.ensures.comes_to,
+      rw c.one.ensures at c.drive_member-ended.ensures.comes_to,
     )
+
+-- one disk is given back
+pub one-requires : goal.one-requires
+one-requires g c = c.drive_member-ended.ensures.as_many

@@ -1,10 +1,9 @@
-use Rattle.std.proofs.Common.{◌≡◌, ◌∙◌, ℕ, refl, sym, ap, subst}
+use Rattle.std.proofs.Common.{◌∙◌, refl, sym, ap, subst}
 use Rattle.std.proofs.lemmas.Result.{on_ok_weaker}
 use Rattle.messages_certificates.specs.declared.artifact.Artifact.{Artifact}
 use Rattle.messages_certificates.specs.declared.artifact.Artifact.TheVariants as artifact
 use Rattle.node_votes.specs.KeepsVotes as accepting
 use Rattle.simplex_member.specs.Point.{Found}
-use Rattle.node_core.specs.Recalling.{CanBeCounted}
 use Rattle.node_core.specs.Saying.{said_artifact}
 use Rattle.node_core.proofs.SaidSo.{its-epoch, its-room, new-own}
 use Rattle.node_core.proofs.telling.tell_votes.Goals as goal

@@ -3,7 +3,7 @@ use Rattle.journal_books.specs.BooksLaws.{not_failed_then, same_not_failed}
 use Rattle.node_core.specs.Keeps.{disks_of}
 use Rattle.node_core.specs.Telling.{tells_behind, tells_err}
 use Rattle.simplex_member.specs.Packet.{formats}
-use Rattle.simplex_member.specs.Recorded.{record_of}
+use Rattle.simplex_member.specs.Recorded.{kept_of}
 use Rattle.simplex_member.specs.Setup.{owner_of}
 use Rattle.node_requests.specs.declared.acted.Acted.TheVariants as came
 use Rattle.node_due.proofs.Casting.{asked_well}
@@ -14,7 +14,7 @@ pub acts-init : goal.acts-init
 acts-init g c = record {
   acts = λ s h k.
       let f = formats {S = g.row.S.Denot} {P = g.row.S-PublicKey.Denot} g.D.PartialEq.eq g.D.Write.spelling g.S.Signature.Write.spelling g.S.Certificate.Write.spelling g.D.Read.reading g.S.Signature.Read.reading g.S.Certificate.Read.reading (g.S.Scheme.size s.voter.scheme) in
-      none_acted g.S.Scheme g.L.Elector g.K.Disk f s c.args.core.now h c.args.out.now.items k (c.a_ledger_at_rest_leaves_its_record.ensures (owner_of s) c.args.core.now.ledger (record_of h) k.ledger);
+      none_acted g.S.Scheme g.L.Elector g.K.Disk f s c.args.core.now h c.args.out.now.items k (c.a_ledger_at_rest_leaves_its_record.ensures (owner_of s) c.args.core.now.ledger (kept_of s.voter.length h) k.ledger);
   no_fault = same_not_failed g.K.Disk (disks_of c.args.core.now);
 }
 

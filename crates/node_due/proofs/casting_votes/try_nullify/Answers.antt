@@ -3,7 +3,7 @@ use Rattle.std.proofs.lemmas.Bool.{false≢true}
 use Rattle.voter_rules.specs.GivingUp.{MayGiveUp, NullifyIsDue}
 use Rattle.simplex_member.specs.Layers.{latest, voter_of}
 use Rattle.simplex_member.specs.Packet.{formats}
-use Rattle.simplex_member.specs.Recorded.{record_of}
+use Rattle.simplex_member.specs.Recorded.{kept_of}
 use Rattle.simplex_member.specs.Setup.{owner_of}
 use Rattle.node_requests.specs.Asking.{is_poll}
 use Rattle.node_requests.specs.Polling.{current_after, latest_after}
@@ -49,9 +49,9 @@ returns-in-Ok-false-clause-tried g c = λ s h k.
       retry_known = retry_known;
     } in
     nothing_after_poll g.S.Scheme g.L.Elector g.K.Disk f s (NoNullifyToCast g.S.Scheme f s) node (record node { voter = c.is_given_up.new.voter }) h c.args.out.now.items stands none
-    (c.a_ledger_at_rest_leaves_its_record.ensures (owner_of s) node.ledger (record_of h) k.ledger)
+    (c.a_ledger_at_rest_leaves_its_record.ensures (owner_of s) node.ledger (kept_of s.voter.length h) k.ledger)
 
 pub returns-in-Err-clause-tried : goal.returns-in-Err-clause-tried
 returns-in-Err-clause-tried g c = λ s h k.
     let f = formats {S = g.row.S.Denot} {P = g.row.S-PublicKey.Denot} g.D.PartialEq.eq g.D.Write.spelling g.S.Signature.Write.spelling g.S.Certificate.Write.spelling g.D.Read.reading g.S.Signature.Read.reading g.S.Certificate.Read.reading (g.S.Scheme.size s.voter.scheme) in
-    did_fail g.S.Scheme g.L.Elector g.K.Disk f s is_poll (NoNullifyToCast g.S.Scheme f s) c.args.core.now _ h c.args.out.now.items c.args.out.now.items c.in-Err.fault (c.a_ledger_at_rest_leaves_its_record.ensures (owner_of s) c.args.core.now.ledger (record_of h) k.ledger)
+    did_fail g.S.Scheme g.L.Elector g.K.Disk f s is_poll (NoNullifyToCast g.S.Scheme f s) c.args.core.now _ h c.args.out.now.items c.args.out.now.items c.in-Err.fault (c.a_ledger_at_rest_leaves_its_record.ensures (owner_of s) c.args.core.now.ledger (kept_of s.voter.length h) k.ledger)

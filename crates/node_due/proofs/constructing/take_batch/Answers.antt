@@ -1,6 +1,6 @@
 use Rattle.simplex_member.specs.Packet.{formats}
 use Rattle.simplex_member.specs.Point.{Constructs}
-use Rattle.simplex_member.specs.Recorded.{record_of}
+use Rattle.simplex_member.specs.Recorded.{kept_of}
 use Rattle.simplex_member.specs.Setup.{owner_of}
 use Rattle.node_core.specs.Leaving.{left_at_rest}
 use Rattle.node_due.proofs.Making.{adds_nothing, made_handed, unmade_handed, unmade_keeps}
@@ -10,17 +10,17 @@ use Rattle.node_due.proofs.constructing.take_batch.Goals as goal
 pub returns-in-Err-clause-any_moment : goal.returns-in-Err-clause-any_moment
 returns-in-Err-clause-any_moment g c = λ s h view kind ahead may keeps.
     let f = formats {S = g.row.S.Denot} {P = g.row.S-PublicKey.Denot} g.D.PartialEq.eq g.D.Write.spelling g.S.Signature.Write.spelling g.S.Certificate.Write.spelling g.D.Read.reading g.S.Signature.Read.reading g.S.Certificate.Read.reading (g.S.Scheme.size s.voter.scheme) in
-    left_at_rest g.S.Scheme f s g.K.Disk h (Constructs view kind c.args.batch) _ _ (c.a_ledger_at_rest_leaves_its_record.ensures (owner_of s) c.args.core.now.ledger (record_of h) ahead.keeps.ledger keeps)
+    left_at_rest g.S.Scheme f s g.K.Disk h (Constructs view kind c.args.batch) _ _ (c.a_ledger_at_rest_leaves_its_record.ensures (owner_of s) c.args.core.now.ledger (kept_of s.voter.length h) ahead.keeps.ledger keeps)
 
 pub returns-in-Ok-enter-clause-any_moment : goal.returns-in-Ok-enter-clause-any_moment
 returns-in-Ok-enter-clause-any_moment g c = λ s h view kind ahead may keeps.
     let f = formats {S = g.row.S.Denot} {P = g.row.S-PublicKey.Denot} g.D.PartialEq.eq g.D.Write.spelling g.S.Signature.Write.spelling g.S.Certificate.Write.spelling g.D.Read.reading g.S.Signature.Read.reading g.S.Certificate.Read.reading (g.S.Scheme.size s.voter.scheme) in
-    left_at_rest g.S.Scheme f s g.K.Disk h (Constructs view kind c.args.batch) _ _ (c.a_ledger_at_rest_leaves_its_record.ensures (owner_of s) c.args.core.now.ledger (record_of h) ahead.keeps.ledger keeps)
+    left_at_rest g.S.Scheme f s g.K.Disk h (Constructs view kind c.args.batch) _ _ (c.a_ledger_at_rest_leaves_its_record.ensures (owner_of s) c.args.core.now.ledger (kept_of s.voter.length h) ahead.keeps.ledger keeps)
 
 pub returns-clause-any_moment : goal.returns-clause-any_moment
 returns-clause-any_moment g c = λ s h view kind ahead may keeps.
     let f = formats {S = g.row.S.Denot} {P = g.row.S-PublicKey.Denot} g.D.PartialEq.eq g.D.Write.spelling g.S.Signature.Write.spelling g.S.Certificate.Write.spelling g.D.Read.reading g.S.Signature.Read.reading g.S.Certificate.Read.reading (g.S.Scheme.size s.voter.scheme) in
-    left_at_rest g.S.Scheme f s g.K.Disk h (Constructs view kind c.args.batch) _ _ (c.a_ledger_at_rest_leaves_its_record.ensures (owner_of s) c.args.core.now.ledger (record_of h) ahead.keeps.ledger keeps)
+    left_at_rest g.S.Scheme f s g.K.Disk h (Constructs view kind c.args.batch) _ _ (c.a_ledger_at_rest_leaves_its_record.ensures (owner_of s) c.args.core.now.ledger (kept_of s.voter.length h) ahead.keeps.ledger keeps)
 
 -- or the certificate was taken
 pub returns-in-Ok-take_made-clause-any_moment : goal.returns-in-Ok-take_made-clause-any_moment

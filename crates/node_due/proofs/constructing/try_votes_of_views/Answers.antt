@@ -9,7 +9,7 @@ use Rattle.node_requests.specs.Asking.{is_none}
 use Rattle.simplex_member.specs.declared.fault.NodeFault.TheVariants as step_fault
 use Rattle.simplex_member.specs.Packet.{formats}
 use Rattle.simplex_member.specs.Point.{Constructs, Forwards}
-use Rattle.simplex_member.specs.Recorded.{record_of}
+use Rattle.simplex_member.specs.Recorded.{kept_of}
 use Rattle.simplex_member.specs.Setup.{owner_of}
 use Rattle.messages_certificates.specs.Artifact.{artifact_fits}
 use Rattle.node_due.specs.Ahead.{MayCome}
@@ -28,7 +28,7 @@ returns-in-Ok-Some-default-Forwards-clause-tried g c = λ s h k.
     tried_one g.S.Scheme g.L.Elector g.K.Disk f s is_none (NoConstructionToMake g.S.Scheme f s) c.args.core.now c.take_proposal.new.core h (Forwards c.in-Ok-Some-default-Forwards.view c.in-Ok-Some-default-Forwards.proposal) c.args.out.now.items c.args.out.now.items c.take_proposal.result refl c.take_proposal.ensures.did
     (on_ok_weaker c.take_proposal.result (λ taken. record { keeps = taken s h ahead.0 ahead.1; acts = nothing_more f c.args.out.now.items }) c.take_proposal.ensures.taken)
     (λ it. subst (λ (b : Books (Artifact g.row.S.Denot g.row.D.Denot g.row.S-PublicKey.Denot g.row.S-Signature.Denot g.row.S-Certificate.Denot) g.row.K.Denot). LeaveBook g.K.Disk c.args.core.now.ledger.books b (IsLeftBy g.S.Scheme f s h (Forwards c.in-Ok-Some-default-Forwards.view c.in-Ok-Some-default-Forwards.proposal))) (sym c.take_proposal.ensures.book)
-    (left_at_rest g.S.Scheme f s g.K.Disk h (Forwards c.in-Ok-Some-default-Forwards.view c.in-Ok-Some-default-Forwards.proposal) _ _ ((c.a_ledger_at_rest_leaves_its_record.ensures (owner_of s) c.args.core.now.ledger (record_of h) k.ledger) it)))
+    (left_at_rest g.S.Scheme f s g.K.Disk h (Forwards c.in-Ok-Some-default-Forwards.view c.in-Ok-Some-default-Forwards.proposal) _ _ ((c.a_ledger_at_rest_leaves_its_record.ensures (owner_of s) c.args.core.now.ledger (kept_of s.voter.length h) k.ledger) it)))
 
 pub returns-in-Ok-Some-default-Made-clause-tried : goal.returns-in-Ok-Some-default-Made-clause-tried
 returns-in-Ok-Some-default-Made-clause-tried g c = λ s h k.
@@ -48,9 +48,9 @@ pub returns-in-Ok-None-clause-tried : goal.returns-in-Ok-None-clause-tried
 returns-in-Ok-None-clause-tried g c = λ s h k.
     let f = formats {S = g.row.S.Denot} {P = g.row.S-PublicKey.Denot} g.D.PartialEq.eq g.D.Write.spelling g.S.Signature.Write.spelling g.S.Certificate.Write.spelling g.D.Read.reading g.S.Signature.Read.reading g.S.Certificate.Read.reading (g.S.Scheme.size s.voter.scheme) in
     let none = (rw c.in-Ok-None.field-0-is at c.in-Ok-None.ensures.none) refl s h k.votes in
-    tried_none g.S.Scheme g.L.Elector g.K.Disk f s is_none (NoConstructionToMake g.S.Scheme f s) c.args.core.now _ h c.args.out.now.items (nothing_due g.S.Scheme g.L.Elector g.K.Disk f s h none.0) (still-keeps k c.next_due.new.self none.1) (c.a_ledger_at_rest_leaves_its_record.ensures (owner_of s) c.args.core.now.ledger (record_of h) k.ledger)
+    tried_none g.S.Scheme g.L.Elector g.K.Disk f s is_none (NoConstructionToMake g.S.Scheme f s) c.args.core.now _ h c.args.out.now.items (nothing_due g.S.Scheme g.L.Elector g.K.Disk f s h none.0) (still-keeps k c.next_due.new.self none.1) (c.a_ledger_at_rest_leaves_its_record.ensures (owner_of s) c.args.core.now.ledger (kept_of s.voter.length h) k.ledger)
 
 pub returns-in-Err-clause-tried : goal.returns-in-Err-clause-tried
 returns-in-Err-clause-tried g c = λ s h k.
     let f = formats {S = g.row.S.Denot} {P = g.row.S-PublicKey.Denot} g.D.PartialEq.eq g.D.Write.spelling g.S.Signature.Write.spelling g.S.Certificate.Write.spelling g.D.Read.reading g.S.Signature.Read.reading g.S.Certificate.Read.reading (g.S.Scheme.size s.voter.scheme) in
-    tried_failed g.S.Scheme g.L.Elector g.K.Disk f s is_none (NoConstructionToMake g.S.Scheme f s) c.args.core.now _ h c.args.out.now.items c.args.out.now.items step_fault.Memory (c.a_ledger_at_rest_leaves_its_record.ensures (owner_of s) c.args.core.now.ledger (record_of h) k.ledger)
+    tried_failed g.S.Scheme g.L.Elector g.K.Disk f s is_none (NoConstructionToMake g.S.Scheme f s) c.args.core.now _ h c.args.out.now.items c.args.out.now.items step_fault.Memory (c.a_ledger_at_rest_leaves_its_record.ensures (owner_of s) c.args.core.now.ledger (kept_of s.voter.length h) k.ledger)

@@ -7,7 +7,7 @@ use Rattle.simplex_member.specs.declared.refusal.Refusal.{Refusal}
 use Rattle.simplex_member.specs.Member.{IsPacketPoint}
 use Rattle.simplex_member.specs.Packet.{Packet, formats}
 use Rattle.simplex_member.specs.Point.{Came, Wanted}
-use Rattle.simplex_member.specs.Recorded.{record_of}
+use Rattle.simplex_member.specs.Recorded.{kept_of}
 use Rattle.simplex_member.specs.Setup.{owner_of}
 use Rattle.node_inbox.specs.Reading.{certificate-spelled}
 use Rattle.node_core.specs.Keeps.{book_of}
@@ -20,14 +20,14 @@ returns-in-Ok-clause-handled g c = λ s h k by small decided none.
     let f = formats {S = g.row.S.Denot} {P = g.row.S-PublicKey.Denot} g.D.PartialEq.eq g.D.Write.spelling g.S.Signature.Write.spelling g.S.Certificate.Write.spelling g.D.Read.reading g.S.Signature.Read.reading g.S.Certificate.Read.reading (g.S.Scheme.size s.voter.scheme) in
     let d = rw c.in-Refused.is at decided in
     refused-handled g.S.Scheme g.L.Elector g.K.Disk f s c.args.core.now h c.args.sender by c.args.bytes c.in-Refused.refusal c.args.out.now.items c.refuse.new.out.items none d.0 d.1 (c.in-Ok.ensures.done f) k
-    (λ keeps. (c.a_ledger_at_rest_leaves_its_record.ensures (owner_of s) c.args.core.now.ledger (record_of h) k.ledger keeps))
+    (λ keeps. (c.a_ledger_at_rest_leaves_its_record.ensures (owner_of s) c.args.core.now.ledger (kept_of s.voter.length h) k.ledger keeps))
 
 pub returns-in-Refused-clause-handled : goal.returns-in-Refused-clause-handled
 returns-in-Refused-clause-handled g c = λ s h k by small decided none.
     let f = formats {S = g.row.S.Denot} {P = g.row.S-PublicKey.Denot} g.D.PartialEq.eq g.D.Write.spelling g.S.Signature.Write.spelling g.S.Certificate.Write.spelling g.D.Read.reading g.S.Signature.Read.reading g.S.Certificate.Read.reading (g.S.Scheme.size s.voter.scheme) in
     let d = rw c.in-Refused.is at decided in
     refused-unhandled g.S.Scheme g.L.Elector g.K.Disk f s c.args.core.now h c.args.sender by c.args.bytes c.in-Refused.refusal c.in-Err.fault c.refuse.new.out.items d.0 c.in-Err.ensures.memory
-    (λ keeps. (c.a_ledger_at_rest_leaves_its_record.ensures (owner_of s) c.args.core.now.ledger (record_of h) k.ledger keeps))
+    (λ keeps. (c.a_ledger_at_rest_leaves_its_record.ensures (owner_of s) c.args.core.now.ledger (kept_of s.voter.length h) k.ledger keeps))
 
 pub returns-in-Ok-clause-faults : goal.returns-in-Ok-clause-faults
 returns-in-Ok-clause-faults g c = unasked g.K.Disk (book_of c.args.core.now) (book_of c.args.core.now) (Ok (Some c.in-Refused.refusal)) refl tt
@@ -42,7 +42,7 @@ returns-in-Vote-clause-handled g c = λ s h k by small decided none.
     let d = rw c.in-Vote.is at decided in
     heard-handled g.S.Scheme g.L.Elector g.K.Disk f s c.args.core.now c.take_vote.new.core h c.args.sender by c.args.bytes c.in-Vote.vote c.args.out.now.items c.take_vote.new.out.items c.take_vote.result none d.1 d.0 d.2.signer d.3
     (IfOk-weaker c.take_vote.result _ _ (λ refused heard. heard s h k d.1 d.2) c.take_vote.ensures.heard)
-    (λ keeps. still-reached g.S.Scheme f s h g.K.Disk _ _ (event.Packet c.args.sender by c.args.bytes) c.take_vote.ensures.book (c.a_ledger_at_rest_leaves_its_record.ensures (owner_of s) c.args.core.now.ledger (record_of h) k.ledger keeps))
+    (λ keeps. still-reached g.S.Scheme f s h g.K.Disk _ _ (event.Packet c.args.sender by c.args.bytes) c.take_vote.ensures.book (c.a_ledger_at_rest_leaves_its_record.ensures (owner_of s) c.args.core.now.ledger (kept_of s.voter.length h) k.ledger keeps))
 
 pub returns-in-Vote-clause-faults : goal.returns-in-Vote-clause-faults
 returns-in-Vote-clause-faults g c = unasked g.K.Disk (book_of c.args.core.now) (book_of c.take_vote.new.core) c.take_vote.result c.take_vote.ensures.book c.take_vote.ensures.fault
@@ -80,7 +80,7 @@ returns-in-Ok-take_ask-clause-handled g c = λ s h k by small decided none.
     record {
       ok = stepped (event.Packet c.args.sender by c.args.bytes) c.take_ask.new.out.items d.1 (subst (λ (o : Option (Packet g.row.S.Denot g.row.D.Denot g.row.S-PublicKey.Denot g.row.S-Signature.Denot g.row.S-Certificate.Denot)). IsPacketPoint c.args.sender o (Wanted c.args.sender c.in-Ask.view)) (sym d.0) (refl, refl))
           (from-nothing g.S.Scheme g.L.Elector g.K.Disk f s c.args.core.now h (Wanted c.args.sender c.in-Ask.view) c.args.out.now.items c.take_ask.new.out.items none (c.in-Ok-take_ask.ensures.taken s h k d.2));
-      any_moment = λ keeps. rest-reached g.S.Scheme f s h g.K.Disk _ _ (event.Packet c.args.sender by c.args.bytes) (c.a_ledger_at_rest_leaves_its_record.ensures (owner_of s) c.args.core.now.ledger (record_of h) k.ledger keeps);
+      any_moment = λ keeps. rest-reached g.S.Scheme f s h g.K.Disk _ _ (event.Packet c.args.sender by c.args.bytes) (c.a_ledger_at_rest_leaves_its_record.ensures (owner_of s) c.args.core.now.ledger (kept_of s.voter.length h) k.ledger keeps);
       without_memory = λ r first needs. refl;
     }
 
@@ -90,7 +90,7 @@ returns-clause-handled g c = λ s h k by small decided none.
     let d = rw c.in-Ask.is at decided in
     record {
       ok = tt;
-      any_moment = λ keeps. rest-reached g.S.Scheme f s h g.K.Disk _ _ (event.Packet c.args.sender by c.args.bytes) (c.a_ledger_at_rest_leaves_its_record.ensures (owner_of s) c.args.core.now.ledger (record_of h) k.ledger keeps);
+      any_moment = λ keeps. rest-reached g.S.Scheme f s h g.K.Disk _ _ (event.Packet c.args.sender by c.args.bytes) (c.a_ledger_at_rest_leaves_its_record.ensures (owner_of s) c.args.core.now.ledger (kept_of s.voter.length h) k.ledger keeps);
       without_memory = none-due g.S.Scheme f s h (event.Packet c.args.sender by c.args.bytes) {A = Option Refusal} (Err c.in-Err-take_ask.fault) d.1;
     }
 

@@ -5,7 +5,7 @@ use Rattle.simplex_member.specs.declared.refusal.Refusal.TheVariants as refusal
 use Rattle.simplex_member.specs.First.{IsFirst}
 use Rattle.simplex_member.specs.Layers.{finalized_of}
 use Rattle.simplex_member.specs.Packet.{formats}
-use Rattle.simplex_member.specs.Recorded.{record_of}
+use Rattle.simplex_member.specs.Recorded.{kept_of}
 use Rattle.simplex_member.specs.Refusals.{tests}
 use Rattle.simplex_member.specs.Setup.{owner_of}
 use Rattle.node_input.proofs.Replying.{none-due, rest-reached, still-reached, stepped, turned-down}
@@ -16,7 +16,7 @@ returns-in_default-clause-handled g c = λ s h k.
     let f = formats {S = g.row.S.Denot} {P = g.row.S-PublicKey.Denot} g.D.PartialEq.eq g.D.Write.spelling g.S.Signature.Write.spelling g.S.Certificate.Write.spelling g.D.Read.reading g.S.Signature.Read.reading g.S.Certificate.Read.reading (g.S.Scheme.size s.voter.scheme) in
     record {
       ok = turned-down (event.Checked c.args.number c.args.answer) [] refusal.UnknownAnswer (inl (sym (c.in_default.ensures (finalized_of s h) h k.tables), refl)) tt k;
-      any_moment = λ keeps. rest-reached g.S.Scheme f s h g.K.Disk _ _ (event.Checked c.args.number c.args.answer) (c.a_ledger_at_rest_leaves_its_record.ensures (owner_of s) c.args.core.now.ledger (record_of h) k.ledger keeps);
+      any_moment = λ keeps. rest-reached g.S.Scheme f s h g.K.Disk _ _ (event.Checked c.args.number c.args.answer) (c.a_ledger_at_rest_leaves_its_record.ensures (owner_of s) c.args.core.now.ledger (kept_of s.voter.length h) k.ledger keeps);
       without_memory = λ r first needs. refl;
     }
 
@@ -28,7 +28,7 @@ returns-in-Ok-clause-handled g c = λ s h k.
     let t = c.in-Ok.ensures.taken s h k (sym stands) [] in
     record {
       ok = stepped (event.Checked c.args.number c.args.answer) [] passes t.is t.taken;
-      any_moment = λ keeps. still-reached g.S.Scheme f s h g.K.Disk _ _ (event.Checked c.args.number c.args.answer) c.in-Ok.ensures.book (c.a_ledger_at_rest_leaves_its_record.ensures (owner_of s) c.args.core.now.ledger (record_of h) k.ledger keeps);
+      any_moment = λ keeps. still-reached g.S.Scheme f s h g.K.Disk _ _ (event.Checked c.args.number c.args.answer) c.in-Ok.ensures.book (c.a_ledger_at_rest_leaves_its_record.ensures (owner_of s) c.args.core.now.ledger (kept_of s.voter.length h) k.ledger keeps);
       without_memory = λ r first needs. refl;
     }
 
@@ -39,6 +39,6 @@ returns-in-Err-clause-handled g c = λ s h k.
     let passes : IsFirst (tests g.S.Scheme f s h (event.Checked c.args.number c.args.answer)) None = inr (λ none. absurd (cc (stands, none)), refl) in
     record {
       ok = tt;
-      any_moment = λ keeps. still-reached g.S.Scheme f s h g.K.Disk _ _ (event.Checked c.args.number c.args.answer) c.in-Err.ensures.book (c.a_ledger_at_rest_leaves_its_record.ensures (owner_of s) c.args.core.now.ledger (record_of h) k.ledger keeps);
+      any_moment = λ keeps. still-reached g.S.Scheme f s h g.K.Disk _ _ (event.Checked c.args.number c.args.answer) c.in-Err.ensures.book (c.a_ledger_at_rest_leaves_its_record.ensures (owner_of s) c.args.core.now.ledger (kept_of s.voter.length h) k.ledger keeps);
       without_memory = none-due g.S.Scheme f s h (event.Checked c.args.number c.args.answer) {A = Option Refusal} (Err c.in-Err.fault) passes;
     }

@@ -4,7 +4,7 @@ use Rattle.simplex_member.specs.declared.refusal.Refusal.{Refusal}
 use Rattle.simplex_member.specs.Deeds.{AreActions}
 use Rattle.simplex_member.specs.Packet.{formats}
 use Rattle.simplex_member.specs.Point.{Judged}
-use Rattle.simplex_member.specs.Recorded.{record_of}
+use Rattle.simplex_member.specs.Recorded.{kept_of}
 use Rattle.simplex_member.specs.Setup.{owner_of}
 use Rattle.node_input.proofs.Replying.{from-nothing, none-due, point-reached, rest-reached, stepped, turned-down}
 use Rattle.node_input.proofs.stepping.handle_verdict.Goals as goal
@@ -14,7 +14,7 @@ returns-in-Some-clause-handled g c = λ s h k none.
     let f = formats {S = g.row.S.Denot} {P = g.row.S-PublicKey.Denot} g.D.PartialEq.eq g.D.Write.spelling g.S.Signature.Write.spelling g.S.Certificate.Write.spelling g.D.Read.reading g.S.Signature.Read.reading g.S.Certificate.Read.reading (g.S.Scheme.size s.voter.scheme) in
     record {
       ok = turned-down (event.Verdict c.args.view c.args.ok) c.args.out.now.items c.in-Some.refusal (c.in-Some.ensures.first s h k c.args.ok) (subst (λ (l : List _). AreActions f l []) (sym none) tt) k;
-      any_moment = λ keeps. rest-reached g.S.Scheme f s h g.K.Disk _ _ (event.Verdict c.args.view c.args.ok) (c.a_ledger_at_rest_leaves_its_record.ensures (owner_of s) c.args.core.now.ledger (record_of h) k.ledger keeps);
+      any_moment = λ keeps. rest-reached g.S.Scheme f s h g.K.Disk _ _ (event.Verdict c.args.view c.args.ok) (c.a_ledger_at_rest_leaves_its_record.ensures (owner_of s) c.args.core.now.ledger (kept_of s.voter.length h) k.ledger keeps);
       without_memory = λ r first needs. refl;
     }
 

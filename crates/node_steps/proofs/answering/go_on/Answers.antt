@@ -1,7 +1,7 @@
 use Rattle.std.proofs.Common.{◌≡◌, refl, true, false, arith, rules}
 use Rattle.std.specs.Prelude.{is_some}
 use Rattle.simplex_member.specs.Packet.{formats}
-use Rattle.simplex_member.specs.Recorded.{record_of}
+use Rattle.simplex_member.specs.Recorded.{kept_of}
 use Rattle.simplex_member.specs.Setup.{owner_of}
 use Rattle.node_steps.proofs.Stepped.{failed_goes_on, refused_goes_on, settled_goes_on}
 use Rattle.journal_books.specs.BooksLaws.{same_not_failed}
@@ -13,7 +13,7 @@ pub returns-then-is_some-clause-goes_on : goal.returns-then-is_some-clause-goes_
 returns-then-is_some-clause-goes_on g c = λ s mid k h event steps.
     let f = formats {S = g.row.S.Denot} {P = g.row.S-PublicKey.Denot} g.D.PartialEq.eq g.D.Write.spelling g.S.Signature.Write.spelling g.S.Certificate.Write.spelling g.D.Read.reading g.S.Signature.Read.reading g.S.Certificate.Read.reading (g.S.Scheme.size s.voter.scheme) in
     let is : is_some c.args.reply.refused ≡ true = first_of (cc, search rules, grind arith) in
-    refused_goes_on g.S.Scheme g.L.Elector g.K.Disk f s h mid event c.args.core.now c.args.reply.refused c.args.reply.actions is steps k (c.a_ledger_at_rest_leaves_its_record.ensures (owner_of s) c.args.core.now.ledger (record_of mid) k.ledger)
+    refused_goes_on g.S.Scheme g.L.Elector g.K.Disk f s h mid event c.args.core.now c.args.reply.refused c.args.reply.actions is steps k (c.a_ledger_at_rest_leaves_its_record.ensures (owner_of s) c.args.core.now.ledger (kept_of s.voter.length mid) k.ledger)
 
 pub returns-in-Ok-clause-goes_on : goal.returns-in-Ok-clause-goes_on
 returns-in-Ok-clause-goes_on g c = λ s mid k h event steps.

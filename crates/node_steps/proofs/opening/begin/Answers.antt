@@ -7,12 +7,12 @@ use Rattle.node_steps.proofs.Stepped.{left_at_size, left_back, settled_at_size}
 use Rattle.node_steps.proofs.opening.begin.Goals as goal
 
 pub returns-in-Ok-clause-opened : goal.returns-in-Ok-clause-opened
-returns-in-Ok-clause-opened g c = λ n s on now size.
+returns-in-Ok-clause-opened g c = λ n s brought on now size.
     settled_at_size (λ (m : ℕ). formats {S = g.row.S.Denot} {P = g.row.S-PublicKey.Denot} g.D.PartialEq.eq g.D.Write.spelling g.S.Signature.Write.spelling g.S.Certificate.Write.spelling g.D.Read.reading g.S.Signature.Read.reading g.S.Certificate.Read.reading m) size
     (λ h k. (c.in-Ok.ensures.settled s h k).ok)
 
 pub returns-in-Ok-clause-any_moment : goal.returns-in-Ok-clause-any_moment
-returns-in-Ok-clause-any_moment g c = λ n s on now size open_is keeps one.
+returns-in-Ok-clause-any_moment g c = λ n s brought on now size open_is keeps one.
     left_at_size c.settle.new.core (λ (m : ℕ). formats {S = g.row.S.Denot} {P = g.row.S-PublicKey.Denot} g.D.PartialEq.eq g.D.Write.spelling g.S.Signature.Write.spelling g.S.Certificate.Write.spelling g.D.Read.reading g.S.Signature.Read.reading g.S.Certificate.Read.reading m) size
     (λ h k. (c.in-Ok.ensures.settled s h k).any_moment keeps) open_is one
 
@@ -33,7 +33,7 @@ returns-in-Err-clause-no_device g c = λ isnt.
     subst (λ (on : Disks g.row.K.Denot). HasNotFailed g.K.Disk (disks_of c.args.node) on) (sym c.into_disks.ensures.disks) (c.in-Err.ensures.faults.no_device (λ it. isnt (c.not_begun.ensures.device.1 it)))
 
 pub returns-in-Err-clause-any_moment_of_a_fault : goal.returns-in-Err-clause-any_moment_of_a_fault
-returns-in-Err-clause-any_moment_of_a_fault g c = λ n s on now size open_is keeps one.
+returns-in-Err-clause-any_moment_of_a_fault g c = λ n s brought on now size open_is keeps one.
     left_back g.K.Disk _ on _ _ c.into_disks.ensures.disks
     (left_at_size c.settle.new.core (λ (m : ℕ). formats {S = g.row.S.Denot} {P = g.row.S-PublicKey.Denot} g.D.PartialEq.eq g.D.Write.spelling g.S.Signature.Write.spelling g.S.Certificate.Write.spelling g.D.Read.reading g.S.Signature.Read.reading g.S.Certificate.Read.reading m) size
     (λ h k. (c.in-Err.ensures.settled s h k).any_moment keeps) open_is one)

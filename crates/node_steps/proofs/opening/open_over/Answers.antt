@@ -1,24 +1,25 @@
+use Rattle.std.proofs.Common.{◌++◌}
 use Rattle.simplex_member.specs.Packet.{formats}
 use Rattle.simplex_member.specs.Setup.{owner_of, setup_of}
 use Rattle.node_steps.proofs.Whole.{is-open}
 use Rattle.node_steps.proofs.opening.open_over.Goals as goal
 
 pub returns-in-Ok-clause-opened : goal.returns-in-Ok-clause-opened
-returns-in-Ok-clause-opened g c = λ on n index set_up in_time over.
+returns-in-Ok-clause-opened g c = λ brought on n index set_up in_time over.
     let s = setup_of g.S.Scheme g.L.Elector c.args.config.now c.args.settings.scheme.value c.args.elector index in
-    is-open g.S.Scheme g.L.Elector g.K.Disk (formats {S = g.row.S.Denot} {P = g.row.S-PublicKey.Denot} g.D.PartialEq.eq g.D.Write.spelling g.S.Signature.Write.spelling g.S.Certificate.Write.spelling g.D.Read.reading g.S.Signature.Read.reading g.S.Certificate.Read.reading n) s _ on c.args.now c.args.settings c.in-Ok.layers c.args.ledger c.node_of.result over.found c.in-Ok.actions.items c.node_of.ensures set_up
-    (c.in-Ok.ensures n index over.found set_up in_time (record { holds = c.recorded.ensures (owner_of s) over.found over.keeps; lawful = over.lawful })) over.are_found over.keeps
+    is-open g.S.Scheme g.L.Elector g.K.Disk (formats {S = g.row.S.Denot} {P = g.row.S-PublicKey.Denot} g.D.PartialEq.eq g.D.Write.spelling g.S.Signature.Write.spelling g.S.Certificate.Write.spelling g.D.Read.reading g.S.Signature.Read.reading g.S.Certificate.Read.reading n) s _ brought on c.args.now c.args.settings c.in-Ok.layers c.args.ledger c.node_of.result over.found over.founded c.in-Ok.actions.items c.node_of.ensures set_up
+    (c.in-Ok.ensures n index (over.found ++ over.founded) set_up in_time (record { holds = c.recorded.ensures (owner_of s) (over.found ++ over.founded) over.keeps; lawful = over.are.appended.lawful })) over.are over.keeps
 
 pub begin-requires-clause-ready : goal.begin-requires-clause-ready
 begin-requires-clause-ready g c =
     let ready = c.requires.ready in
     let s = setup_of g.S.Scheme g.L.Elector c.args.config.now c.args.settings.scheme.value c.args.elector ready.0 in
-    let over = ready.1.over in (
+    let through = ready.1 in (
       ready.0,
       record {
         set_up = ready.1.set_up;
         in_time = ready.1.in_time;
-        found = over.found;
-        record_is = record { holds = c.recorded.ensures (owner_of s) over.found over.keeps; lawful = over.lawful };
+        found = through.found;
+        record_is = record { holds = c.recorded.ensures (owner_of s) through.found through.keeps; lawful = through.lawful };
       },
     )

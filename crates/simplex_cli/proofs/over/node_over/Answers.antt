@@ -10,6 +10,7 @@ returns-clause-silent g c = silent c.drive-ended.result.0 c.tell.result _ c.tell
 pub returns-clause-comes_to : goal.returns-clause-comes_to
 returns-clause-comes_to g c = (
   c.drive-ended.result.0,
+  c.drive-ended.result.1,
   status_is c.drive-ended.result.0 c.tell.result c.tell.ensures.whole c.tell.ensures.status,
   c.tell.ensures.told,
   c.drive-ended.ensures.streams,

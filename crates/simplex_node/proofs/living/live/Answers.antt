@@ -15,14 +15,14 @@ loop-opening-init g c =
       room = omega (arith, ap length rest, c.in-Ok.ensures.len, c.in-Ok.ensures.capacity);
       each = omega (arith, ap length c.in-Ok.ensures.items, ap length rest);
       failures = ap (λ (l : List (Answered g.row.S.Denot g.row.D.Denot g.row.S-PublicKey.Denot g.row.S-Signature.Denot g.row.S-Certificate.Denot)). failures_behind (g.K.Disk.failed c.args.disk) l) (sym c.in-Ok.ensures.items);
-      built = All-same (λ (o : Opening g.row.S.Denot g.row.L.Denot g.row.D.Denot). g.L.Elector.built_for o.elector (g.S.Scheme.size o.scheme.value)) _ _ rest c.requires;
+      built = All-same (λ (o : Opening g.row.S.Denot g.row.L.Denot g.row.D.Denot g.row.S-PublicKey.Denot g.row.S-Signature.Denot g.row.S-Certificate.Denot). g.L.Elector.built_for o.elector (g.S.Scheme.size o.scheme.value)) _ _ rest c.requires;
       lives = λ s before own small keeps members start. none-over g.S.Scheme g.L.Elector g.K.Disk _ s before c.args.disk c.args.openings.items _ _ rest c.in-Ok.ensures.items start;
     }
 
 pub live_once-answer-requires : goal.live_once-answer-requires
 live_once-answer-requires g c =
-    All-head (λ (o : Opening g.row.S.Denot g.row.L.Denot g.row.D.Denot). g.L.Elector.built_for o.elector (g.S.Scheme.size o.scheme.value)) c.in-Some.opening _
-    (All-same (λ (o : Opening g.row.S.Denot g.row.L.Denot g.row.D.Denot). g.L.Elector.built_for o.elector (g.S.Scheme.size o.scheme.value)) _ _ (sym c.in-Some.ensures.steps.0) c.loop-opening.invariant.built)
+    All-head (λ (o : Opening g.row.S.Denot g.row.L.Denot g.row.D.Denot g.row.S-PublicKey.Denot g.row.S-Signature.Denot g.row.S-Certificate.Denot). g.L.Elector.built_for o.elector (g.S.Scheme.size o.scheme.value)) c.in-Some.opening _
+    (All-same (λ (o : Opening g.row.S.Denot g.row.L.Denot g.row.D.Denot g.row.S-PublicKey.Denot g.row.S-Signature.Denot g.row.S-Certificate.Denot). g.L.Elector.built_for o.elector (g.S.Scheme.size o.scheme.value)) _ _ (sym c.in-Some.ensures.steps.0) c.loop-opening.invariant.built)
 
 pub loop-opening-preserved : goal.loop-opening-preserved
 loop-opening-preserved g c =
@@ -33,7 +33,7 @@ loop-opening-preserved g c =
       failures = c.live_once-answer.ensures.failures ∙ ap (λ (n : ℕ). counted (tells_none c.live_once-answer.result.0) n) c.loop-opening.invariant.failures
           ∙ sym (failures-more (g.K.Disk.failed c.args.disk) c.loop-opening.answers.items c.live_once-answer.result.0)
           ∙ ap (λ (l : List (Answered g.row.S.Denot g.row.D.Denot g.row.S-PublicKey.Denot g.row.S-Signature.Denot g.row.S-Certificate.Denot)). failures_behind (g.K.Disk.failed c.args.disk) l) (sym c.push_reserved.ensures.items);
-      built = All-rest (λ (o : Opening g.row.S.Denot g.row.L.Denot g.row.D.Denot). g.L.Elector.built_for o.elector (g.S.Scheme.size o.scheme.value)) _ _ _ left c.loop-opening.invariant.built;
+      built = All-rest (λ (o : Opening g.row.S.Denot g.row.L.Denot g.row.D.Denot g.row.S-PublicKey.Denot g.row.S-Signature.Denot g.row.S-Certificate.Denot). g.L.Elector.built_for o.elector (g.S.Scheme.size o.scheme.value)) _ _ _ left c.loop-opening.invariant.built;
       lives = λ s before own small keeps members start.
           one-over g.S.Scheme g.L.Elector g.K.Disk _ s before c.args.disk c.args.openings.items _ _ _ _ c.in-Some.opening c.live_once-answer.result.0 c.loop-opening.disk c.live_once-answer.result.1 left c.push_reserved.ensures.items members
           (λ earlier one may. c.live_once-answer.ensures.lives s earlier own small keeps one may)

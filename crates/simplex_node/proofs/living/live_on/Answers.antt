@@ -3,7 +3,7 @@ use Rattle.journal_single.specs.Record.{Reads}
 use Rattle.journal_single.specs.Total.{reads_any}
 use Rattle.journal_books.specs.Books.{HasNotFailed}
 use Rattle.journal_books.specs.BooksLaws.{same_not_failed}
-use Rattle.simplex_member.specs.Recorded.{record_of}
+use Rattle.simplex_member.specs.Recorded.{kept_of}
 use Rattle.simplex_member.specs.declared.action.Reply.{Reply}
 use Rattle.simplex_member.specs.declared.fault.NodeFault.TheVariants as node_fault
 use Rattle.simplex_member.specs.Packet.{formats}
@@ -22,7 +22,7 @@ returns-in-Ok g c = record {
       c.close.ensures.disk (c.in-Ok.ensures.answers s h k);
   any_moment = λ s h k d over keeps.
       let f = formats {S = g.row.S.Denot} {P = g.row.S-PublicKey.Denot} g.D.PartialEq.eq g.D.Write.spelling g.S.Signature.Write.spelling g.S.Certificate.Write.spelling g.D.Read.reading g.S.Signature.Read.reading g.S.Certificate.Read.reading (g.S.Scheme.size s.voter.scheme) in
-      on-disk g.K.Disk (IsPassed g.S.Scheme f s h c.args.events.items) f.artifact (record_of h) (book_of c.args.node) (book_of c.run.new.node) d c.close.result over c.close.ensures.disk (k.core.ledger.journal keeps) (c.run.ensures.any_moment s h k keeps);
+      on-disk g.K.Disk (IsPassed g.S.Scheme f s h c.args.events.items) f.artifact (kept_of s.voter.length h) (book_of c.args.node) (book_of c.run.new.node) d c.close.result over c.close.ensures.disk (k.core.ledger.journal keeps) (c.run.ensures.any_moment s h k keeps);
   failures = λ d over. steps-failures c.in-Ok.answers.fault _ _
       (λ is. failed-on g.K.Disk (disks_of c.args.node) (disks_of c.run.new.node) d c.close.result over c.close.ensures.disk (c.in-Ok.ensures.device is))
       (λ isnt. not-failed-on g.K.Disk (disks_of c.args.node) (disks_of c.run.new.node) d c.close.result over c.close.ensures.disk (c.in-Ok.ensures.no_device isnt));
@@ -39,7 +39,7 @@ returns-in-Err g c = record {
       (turns-none g.S.Scheme f s h c.args.events.items node_fault.Memory image (subst (λ (bodies : List (List ℕ)). Reads image bodies) same any.1));
   any_moment = λ s h k d over keeps.
       let f = formats {S = g.row.S.Denot} {P = g.row.S-PublicKey.Denot} g.D.PartialEq.eq g.D.Write.spelling g.S.Signature.Write.spelling g.S.Certificate.Write.spelling g.D.Read.reading g.S.Signature.Read.reading g.S.Certificate.Read.reading (g.S.Scheme.size s.voter.scheme) in
-      on-disk g.K.Disk (IsPassed g.S.Scheme f s h c.args.events.items) f.artifact (record_of h) (book_of c.args.node) (book_of c.run.new.node) d c.close-in-Err.result over c.close-in-Err.ensures.disk (k.core.ledger.journal keeps) (c.run.ensures.any_moment s h k keeps);
+      on-disk g.K.Disk (IsPassed g.S.Scheme f s h c.args.events.items) f.artifact (kept_of s.voter.length h) (book_of c.args.node) (book_of c.run.new.node) d c.close-in-Err.result over c.close-in-Err.ensures.disk (k.core.ledger.journal keeps) (c.run.ensures.any_moment s h k keeps);
   failures = λ d over. not-failed-on g.K.Disk (disks_of c.args.node) (disks_of c.run.new.node) d c.close-in-Err.result over c.close-in-Err.ensures.disk
       (subst (λ (node : Node g.row.S.Denot g.row.L.Denot g.row.D.Denot g.row.K.Denot g.row.S-PublicKey.Denot g.row.S-Signature.Denot g.row.S-Certificate.Denot). HasNotFailed g.K.Disk (disks_of c.args.node) (disks_of node)) (sym c.in-Err.ensures.no_room) (same_not_failed g.K.Disk (disks_of c.args.node)));
 }

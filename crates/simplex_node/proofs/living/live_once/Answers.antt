@@ -9,9 +9,9 @@ use Rattle.simplex_node.proofs.living.live_once.Goals as goal
 -- it opened, and its steps were made
 pub returns-in-Ok : goal.returns-in-Ok
 returns-in-Ok g c = record {
-  lives = opened-told g.S.Scheme g.L.Elector g.K.Disk _ _ c.a_disk_reads_as_one_record.ensures.one c.never_foreign.ensures.found (λ n s. c.what_is_kept_tells_all.ensures.whole _ s) c.args.disk _ c.args.opening (g.met.K.Disk.seen_is_left c.args.disk)
+  lives = opened-told g.S.Scheme g.L.Elector g.K.Disk _ _ c.a_disk_reads_as_one_record.ensures.one c.never_foreign.ensures.found c.args.disk _ c.args.opening (g.met.K.Disk.seen_is_left c.args.disk)
       c.in-Ok.node c.in-Ok.first.items c.in-Ok.ensures.opened _ c.in-Ok.first c.live_on-answers.result.0 refl refl c.live_on-answers.ensures.turns;
-  any_moment = opened-left g.S.Scheme g.L.Elector g.K.Disk _ _ c.a_disk_reads_as_one_record.ensures.one c.never_foreign.ensures.found (λ n s. c.what_is_kept_tells_all.ensures.whole _ s) c.args.disk _ c.args.opening (g.met.K.Disk.seen_is_left c.args.disk)
+  any_moment = opened-left g.S.Scheme g.L.Elector g.K.Disk _ _ c.a_disk_reads_as_one_record.ensures.one c.never_foreign.ensures.found c.args.disk _ c.args.opening (g.met.K.Disk.seen_is_left c.args.disk)
       c.in-Ok.node c.in-Ok.first.items c.in-Ok.ensures.opened (one_of (disks_of c.in-Ok.node) c.in-Ok.ensures.over_one).0 (one_of (disks_of c.in-Ok.node) c.in-Ok.ensures.over_one).1 c.in-Ok.ensures.has_opened.any_moment c.live_on-answers.ensures.any_moment;
   failures =
       let one = one_of (disks_of c.in-Ok.node) c.in-Ok.ensures.over_one in
@@ -22,10 +22,10 @@ returns-in-Ok g c = record {
 -- it failed
 pub returns-in-Err : goal.returns-in-Err
 returns-in-Err g c = record {
-  lives = failed-told g.S.Scheme g.L.Elector g.K.Disk _ _ c.a_disk_reads_as_one_record.ensures.one c.never_foreign.ensures.found (λ n s. c.what_is_kept_tells_all.ensures.whole _ s) c.args.disk _ c.args.opening (g.met.K.Disk.seen_is_left c.args.disk)
+  lives = failed-told g.S.Scheme g.L.Elector g.K.Disk _ _ c.a_disk_reads_as_one_record.ensures.one c.never_foreign.ensures.found c.args.disk _ c.args.opening (g.met.K.Disk.seen_is_left c.args.disk)
       c.in-Err.fault c.in-Err.ensures.unopened.any_moment c.never_foreign.ensures.never (λ n s. c.never_contradicts.ensures _ s) c.in-Err.ensures.unopened.told_early c.in-Err.ensures.unopened.told_later
       c.in-Err.ensures.unopened.foreign c.in-Err.ensures.unopened.contradiction;
-  any_moment = failed-left g.S.Scheme g.L.Elector g.K.Disk _ _ c.a_disk_reads_as_one_record.ensures.one c.never_foreign.ensures.found (λ n s. c.what_is_kept_tells_all.ensures.whole _ s) c.args.disk _ c.args.opening (g.met.K.Disk.seen_is_left c.args.disk)
+  any_moment = failed-left g.S.Scheme g.L.Elector g.K.Disk _ _ c.a_disk_reads_as_one_record.ensures.one c.never_foreign.ensures.found c.args.disk _ c.args.opening (g.met.K.Disk.seen_is_left c.args.disk)
       c.in-Err.fault c.in-Err.ensures.unopened.any_moment;
   failures = opening-failures g.row.S.Denot g.row.D.Denot g.row.S-PublicKey.Denot g.row.S-Signature.Denot g.row.S-Certificate.Denot c.in-Err.fault _ _ c.in-Err.ensures.unopened.device c.in-Err.ensures.unopened.no_device;
 }

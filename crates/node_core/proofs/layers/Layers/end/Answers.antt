@@ -4,7 +4,7 @@ use Rattle.simplex_member.specs.Layers.{repair_of, voter_of}
 use Rattle.simplex_member.specs.Packet.{formats}
 use Rattle.simplex_member.specs.Point.{Began}
 use Rattle.simplex_member.specs.Recorded.{record_of}
-use Rattle.node_core.proofs.Gone.{began-allowed, opens-behind}
+use Rattle.node_core.proofs.Gone.{began-allowed, opens-behind, reading-kept}
 use Rattle.node_core.proofs.layers.Layers.end.Goals as goal
 
 pub returns : goal.returns
@@ -18,6 +18,7 @@ returns g c = λ n now s found before after k acts.
       begun = refl;
       allowed = (may, k.allowed);
       whole = whole;
+      kept = reading-kept s.voter.length now h k.reading ∙ whole;
       stand = record {
         voter = c.in_ok-prune.ensures.keeps s.voter (voter_of s h) k.stand.voter;
         votes = c.silent_points_leave_votes.ensures.quiet s c.args.self.now.acceptance h Began (λ view. (refl, λ r. refl)) refl k.stand.votes;

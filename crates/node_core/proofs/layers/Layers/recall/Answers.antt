@@ -1,9 +1,9 @@
-use Rattle.std.proofs.Common.{◌∷◌, ◌++◌, [], ◌∙◌, sym, subst, refl, ℕ, List, append_assoc}
+use Rattle.std.proofs.Common.{◌∷◌, ◌++◌, [], ◌∙◌, sym, subst, refl, ℕ, append_assoc}
 use Rattle.std.proofs.lemmas.Result.{on_ok_weaker}
 use Rattle.types_core.specs.Positions.{HasRoom}
 use Rattle.messages_certificates.specs.Artifact.{artifact_round}
 use Rattle.simplex_state.specs.State as voting
-use Rattle.simplex_member.specs.Layers.{finds, repair_of, voter_of}
+use Rattle.simplex_member.specs.Layers.{finds, voter_of}
 use Rattle.simplex_member.specs.Packet.{formats}
 use Rattle.simplex_member.specs.Point.{Found}
 use Rattle.simplex_member.specs.Recorded.{record_of}

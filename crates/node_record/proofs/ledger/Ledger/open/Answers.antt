@@ -1,4 +1,4 @@
-use Rattle.std.proofs.Common.{◌≡◌, ⊎_elim, map, subst, sym}
+use Rattle.std.proofs.Common.{⊎_elim, subst, sym}
 use Rattle.journal_books.specs.declared.disks.Disks.{Disks}
 use Rattle.journal_books.specs.Books.{AreLeftAsTheyWere, HasNotFailed, Leave, MayBeRead}
 use Rattle.journal_books.specs.BooksLaws.{failed_then, not_failed_then}

@@ -1,0 +1,26 @@
+use Rattle.node_core.specs.Telling.{tells_as_many}
+use Rattle.node_steps.proofs.node.Node.rewrite.Goals as goal
+
+pub returns-in-Ok-clause-view : goal.returns-in-Ok-clause-view
+returns-in-Ok-clause-view g c = λ s h k. c.in-Ok.ensures.view s h k.core
+
+pub returns-in-Ok-clause-rewritten : goal.returns-in-Ok-clause-rewritten
+returns-in-Ok-clause-rewritten g c = λ floor is s h k.
+    let so = c.in-Ok.ensures.rewritten floor is s h k.core in
+    record { floor = so.floor; at = so.at; rewritten = so.rewritten; keeps = record { running = k.running; core = so.keeps } }
+
+pub returns-in-Ok-clause-none_if_it_begins_there : goal.returns-in-Ok-clause-none_if_it_begins_there
+returns-in-Ok-clause-none_if_it_begins_there g c = λ s h k. c.rewrite.ensures.none_if_it_begins_there s h k.core
+
+pub returns-in-Ok-clause-any_moment : goal.returns-in-Ok-clause-any_moment
+returns-in-Ok-clause-any_moment g c = λ s h k. c.rewrite.ensures.any_moment s h k.core
+
+pub returns-in-Err-clause-any_moment : goal.returns-in-Err-clause-any_moment
+returns-in-Err-clause-any_moment g c = λ s h k. c.rewrite.ensures.any_moment s h k.core
+
+-- the disks are as many as before
+pub returns-in-Ok-clause-as_many : goal.returns-in-Ok-clause-as_many
+returns-in-Ok-clause-as_many g c = tells_as_many _ _ _ c.rewrite.ensures.faults
+
+pub returns-in-Err-clause-as_many : goal.returns-in-Err-clause-as_many
+returns-in-Err-clause-as_many g c = tells_as_many _ _ _ c.rewrite.ensures.faults
