@@ -97,7 +97,9 @@ impl<S: Scheme<D>, D: Digest, K: Disk> Ledger<S, D, K> {
         ensures no_device { IfErr result (λ refused. refused.0 ≢ open_fault.Device → HasNotFailed K.Disk disks refused.1) }
         ensures no_fault { IfOk result (λ ledger. HasNotFailed K.Disk disks (disks_of ledger)) }
     {
-        match Ledger::open(alloc, scheme, owner, disks) {
+        // A second one, since a call by value takes its own away.
+        let same = Owner { ..owner };
+        match Ledger::open(alloc, scheme, same, disks) {
             Ok(ledger) => match floor {
                 Floor::Genesis(_) => Ok(ledger),
                 Floor::Finalized(finalization) => {

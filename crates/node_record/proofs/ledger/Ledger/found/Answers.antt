@@ -34,7 +34,7 @@ unreachable-requires g c = c.requires.sound fault.NotVerifying (λ certified. le
 pub returns-in-Ok-clause-holds : goal.returns-in-Ok-clause-holds
 returns-in-Ok-clause-holds g c = λ xs k lawful.
     let above : last_finalized (entries xs) < c.args.floor.now.proposal.round.view = grind (arith, nat_tests, c.if-le.false, c.le.ensures, c.view-view.ensures, c.last_finalized-last.ensures c.args.owner xs k.holds) in
-    let certified = c.verify.ensures.0 (grind c.if-not-verify.false) in
+    let certified = c.verify.ensures.0 (grind (arith, c.if-not-verify.false)) in
     let fits = fits-behind (g.S.Scheme.attests c.args.scheme.now) (g.S.Scheme.certifies c.args.scheme.now) c.args.owner c.args.floor.now c.requires.sound certified xs above in
     record {
       founded = artifact.Finalization c.args.floor.now ∷ [];
@@ -47,7 +47,7 @@ returns-in-Ok-clause-holds g c = λ xs k lawful.
 pub returns-in-Ok-clause-any_moment : goal.returns-in-Ok-clause-any_moment
 returns-in-Ok-clause-any_moment g c = λ xs before k lawful keeps may since.
     let above : last_finalized (entries xs) < c.args.floor.now.proposal.round.view = grind (arith, nat_tests, c.if-le.false, c.le.ensures, c.view-view.ensures, c.last_finalized-last.ensures c.args.owner xs k.holds) in
-    let certified = c.verify.ensures.0 (grind c.if-not-verify.false) in
+    let certified = c.verify.ensures.0 (grind (arith, c.if-not-verify.false)) in
     let fits = fits-behind (g.S.Scheme.attests c.args.scheme.now) (g.S.Scheme.certifies c.args.scheme.now) c.args.owner c.args.floor.now c.requires.sound certified xs above in
     since-behind (g.S.Scheme.attests c.args.scheme.now) (g.S.Scheme.certifies c.args.scheme.now) c.args.owner c.args.floor.now (Readable (artifact_fits g.D.Write.fits g.S.Signature.Write.fits g.S.Certificate.Write.fits) (artifact_within (g.S.Certificate.Read.within (g.S.Scheme.size c.args.scheme.now)))) g.K.Disk (artifact_spelling g.D.Write.spelling g.S.Signature.Write.spelling g.S.Certificate.Write.spelling) xs before _ _
     (c.a_lawful_record_grows.ensures.further c.args.scheme.now c.args.owner xs (artifact.Finalization c.args.floor.now) lawful fits) above may since
@@ -57,7 +57,7 @@ returns-in-Ok-clause-any_moment g c = λ xs before k lawful keeps may since.
 pub returns-in-Err-clause-any_moment_of_a_fault : goal.returns-in-Err-clause-any_moment_of_a_fault
 returns-in-Err-clause-any_moment_of_a_fault g c = λ xs before k lawful keeps may since.
     let above : last_finalized (entries xs) < c.args.floor.now.proposal.round.view = grind (arith, nat_tests, c.if-le.false, c.le.ensures, c.view-view.ensures, c.last_finalized-last.ensures c.args.owner xs k.holds) in
-    let certified = c.verify.ensures.0 (grind c.if-not-verify.false) in
+    let certified = c.verify.ensures.0 (grind (arith, c.if-not-verify.false)) in
     let fits = fits-behind (g.S.Scheme.attests c.args.scheme.now) (g.S.Scheme.certifies c.args.scheme.now) c.args.owner c.args.floor.now c.requires.sound certified xs above in
     subst (λ (on : Disks g.row.K.Denot). Leave g.K.Disk before on (May (g.S.Scheme.attests c.args.scheme.now) (g.S.Scheme.certifies c.args.scheme.now) c.args.owner c.args.floor.now (Readable (artifact_fits g.D.Write.fits g.S.Signature.Write.fits g.S.Certificate.Write.fits) (artifact_within (g.S.Certificate.Read.within (g.S.Scheme.size c.args.scheme.now)))) g.K.Disk (artifact_spelling g.D.Write.spelling g.S.Signature.Write.spelling g.S.Certificate.Write.spelling) xs before)) (sym c.close.ensures)
     (since_leaves g.K.Disk _ before _ (λ read is. inl is)

@@ -17,8 +17,8 @@ pub returns-in-Err-clause-untouched : goal.returns-in-Err-clause-untouched
 returns-in-Err-clause-untouched g c = λ other memory keeps. c.in-Err.ensures.untouched other keeps
 
 -- the payload of view 0 is brought
-pub returns-in-Ok-in-Genesis-clause-opened : goal.returns-in-Ok-in-Genesis-clause-opened
-returns-in-Ok-in-Genesis-clause-opened g c =
+pub returns-in-Genesis-clause-opened : goal.returns-in-Genesis-clause-opened
+returns-in-Genesis-clause-opened g c =
     let over = c.in-Ok.ensures.opened in
     record {
       found = over.found;
@@ -34,50 +34,50 @@ returns-in-Ok-in-Genesis-clause-opened g c =
       keeps = subst (λ (l : List (Artifact g.row.S.Denot g.row.D.Denot g.row.S-PublicKey.Denot g.row.S-Signature.Denot g.row.S-Certificate.Denot)). KeepsRecord g.K.Disk (artifact_spelling g.D.Write.spelling g.S.Signature.Write.spelling g.S.Certificate.Write.spelling) c.args.owner c.in-Ok.ledger l) (sym (append-nil over.found)) over.keeps;
     }
 
-pub returns-in-Ok-in-Genesis-clause-any_moment : goal.returns-in-Ok-in-Genesis-clause-any_moment
-returns-in-Ok-in-Genesis-clause-any_moment g c = λ keeps. since_weaker g.K.Disk _ _ (λ read is. inl is) _ _ (c.in-Ok.ensures.any_moment keeps)
+pub returns-in-Genesis-clause-any_moment : goal.returns-in-Genesis-clause-any_moment
+returns-in-Genesis-clause-any_moment g c = λ keeps. since_weaker g.K.Disk _ _ (λ read is. inl is) _ _ (c.in-Ok.ensures.any_moment keeps)
 
 -- a finalization is
-pub returns-in-Ok-in-Finalized-clause-opened : goal.returns-in-Ok-in-Finalized-clause-opened
-returns-in-Ok-in-Finalized-clause-opened g c =
+pub returns-in-Finalized-clause-opened : goal.returns-in-Finalized-clause-opened
+returns-in-Finalized-clause-opened g c =
     let over = c.in-Ok.ensures.opened in
     IfOk-weaker c.found.result _ _ (λ ledger holds.
     let it = holds over.found over.keeps over.lawful in
     record { found = over.found; founded = it.founded; are = record { are_found = over.are_found; appended = it.appended }; keeps = it.keeps }) c.found.ensures.holds
 
-pub returns-in-Ok-in-Finalized-clause-any_moment : goal.returns-in-Ok-in-Finalized-clause-any_moment
-returns-in-Ok-in-Finalized-clause-any_moment g c =
+pub returns-in-Finalized-clause-any_moment : goal.returns-in-Finalized-clause-any_moment
+returns-in-Finalized-clause-any_moment g c =
     let over = c.in-Ok.ensures.opened in
     IfOk-weaker c.found.result _ _ (λ ledger leaves keeps.
     since_weaker g.K.Disk _ _ (λ read. ⊎_elim (λ is. inl is) (λ (founded, appended, is). inr (over.found, founded, record { are_found = over.are_found; appended = appended }, is))) _ _
     (leaves over.found c.args.disks over.keeps over.lawful keeps (over.are_found.left keeps) (c.in-Ok.ensures.any_moment keeps))) c.found.ensures.any_moment
 
-pub returns-in-Ok-in-Finalized-clause-any_moment_of_a_fault : goal.returns-in-Ok-in-Finalized-clause-any_moment_of_a_fault
-returns-in-Ok-in-Finalized-clause-any_moment_of_a_fault g c =
+pub returns-in-Finalized-clause-any_moment_of_a_fault : goal.returns-in-Finalized-clause-any_moment_of_a_fault
+returns-in-Finalized-clause-any_moment_of_a_fault g c =
     let over = c.in-Ok.ensures.opened in
     IfErr-weaker c.found.result _ _ (λ refused leaves keeps.
     leave_weaker g.K.Disk _ _ (λ read. ⊎_elim (λ is. inl is) (λ (founded, appended, is). inr (over.found, founded, record { are_found = over.are_found; appended = appended }, is))) _ _
     (leaves over.found c.args.disks over.keeps over.lawful keeps (over.are_found.left keeps) (c.in-Ok.ensures.any_moment keeps))) c.found.ensures.any_moment_of_a_fault
 
 -- whose faults are a disk's, or want of memory
-pub returns-in-Ok-in-Finalized-clause-faults : goal.returns-in-Ok-in-Finalized-clause-faults
-returns-in-Ok-in-Finalized-clause-faults g c = IfErr-weaker c.found.result _ _ (λ refused told. ⊎_elim (λ device. inl device) (λ memory. inr (inl memory)) told) c.found.ensures.faults
+pub returns-in-Finalized-clause-faults : goal.returns-in-Finalized-clause-faults
+returns-in-Finalized-clause-faults g c = IfErr-weaker c.found.result _ _ (λ refused told. ⊎_elim (λ device. inl device) (λ memory. inr (inl memory)) told) c.found.ensures.faults
 
-pub returns-in-Ok-in-Finalized-clause-foreign : goal.returns-in-Ok-in-Finalized-clause-foreign
-returns-in-Ok-in-Finalized-clause-foreign g c = IfErr-weaker c.found.result _ _ (λ refused told place is keeps. absurd (⊎_elim (λ device. cc (device, is)) (λ memory. cc (memory, is)) told)) c.found.ensures.faults
+pub returns-in-Finalized-clause-foreign : goal.returns-in-Finalized-clause-foreign
+returns-in-Finalized-clause-foreign g c = IfErr-weaker c.found.result _ _ (λ refused told place is keeps. absurd (⊎_elim (λ device. cc (device, is)) (λ memory. cc (memory, is)) told)) c.found.ensures.faults
 
-pub returns-in-Ok-in-Finalized-clause-contradiction : goal.returns-in-Ok-in-Finalized-clause-contradiction
-returns-in-Ok-in-Finalized-clause-contradiction g c = IfErr-weaker c.found.result _ _ (λ refused told position is. absurd (⊎_elim (λ device. cc (device, is)) (λ memory. cc (memory, is)) told)) c.found.ensures.faults
+pub returns-in-Finalized-clause-contradiction : goal.returns-in-Finalized-clause-contradiction
+returns-in-Finalized-clause-contradiction g c = IfErr-weaker c.found.result _ _ (λ refused told position is. absurd (⊎_elim (λ device. cc (device, is)) (λ memory. cc (memory, is)) told)) c.found.ensures.faults
 
-pub returns-in-Ok-in-Finalized-clause-untouched : goal.returns-in-Ok-in-Finalized-clause-untouched
-returns-in-Ok-in-Finalized-clause-untouched g c = IfErr-weaker c.found.result _ _ (λ refused told other memory keeps. absurd (⊎_elim other memory told)) c.found.ensures.faults
+pub returns-in-Finalized-clause-untouched : goal.returns-in-Finalized-clause-untouched
+returns-in-Finalized-clause-untouched g c = IfErr-weaker c.found.result _ _ (λ refused told other memory keeps. absurd (⊎_elim other memory told)) c.found.ensures.faults
 
 -- nor has a disk failed before
-pub returns-in-Ok-in-Finalized-clause-device : goal.returns-in-Ok-in-Finalized-clause-device
-returns-in-Ok-in-Finalized-clause-device g c = IfErr-weaker c.found.result _ _ (λ refused told is. failed_then g.K.Disk _ _ _ c.in-Ok.ensures.no_fault (told is)) c.found.ensures.device
+pub returns-in-Finalized-clause-device : goal.returns-in-Finalized-clause-device
+returns-in-Finalized-clause-device g c = IfErr-weaker c.found.result _ _ (λ refused told is. failed_then g.K.Disk _ _ _ c.in-Ok.ensures.no_fault (told is)) c.found.ensures.device
 
-pub returns-in-Ok-in-Finalized-clause-no_device : goal.returns-in-Ok-in-Finalized-clause-no_device
-returns-in-Ok-in-Finalized-clause-no_device g c = IfErr-weaker c.found.result _ _ (λ refused told isnt. not_failed_then g.K.Disk _ _ _ c.in-Ok.ensures.no_fault (told isnt)) c.found.ensures.no_device
+pub returns-in-Finalized-clause-no_device : goal.returns-in-Finalized-clause-no_device
+returns-in-Finalized-clause-no_device g c = IfErr-weaker c.found.result _ _ (λ refused told isnt. not_failed_then g.K.Disk _ _ _ c.in-Ok.ensures.no_fault (told isnt)) c.found.ensures.no_device
 
-pub returns-in-Ok-in-Finalized-clause-no_fault : goal.returns-in-Ok-in-Finalized-clause-no_fault
-returns-in-Ok-in-Finalized-clause-no_fault g c = IfOk-weaker c.found.result _ _ (λ ledger told. not_failed_then g.K.Disk _ _ _ c.in-Ok.ensures.no_fault told) c.found.ensures.no_fault
+pub returns-in-Finalized-clause-no_fault : goal.returns-in-Finalized-clause-no_fault
+returns-in-Finalized-clause-no_fault g c = IfOk-weaker c.found.result _ _ (λ ledger told. not_failed_then g.K.Disk _ _ _ c.in-Ok.ensures.no_fault told) c.found.ensures.no_fault

@@ -1,4 +1,4 @@
-use Rattle.std.proofs.Common.{◌++◌, ◌∷◌, [], inl, sym, subst}
+use Rattle.std.proofs.Common.{◌++◌, ◌∷◌, [], inl, sym, subst, arith}
 use Rattle.types_codec.specs.Codec.{Readable}
 use Rattle.messages_certificates.specs.Artifact.{artifact_fits, artifact_spelling, artifact_within, artifact_within-weaker}
 use Rattle.messages_certificates.specs.declared.artifact.Artifact.TheVariants as artifact
@@ -23,7 +23,7 @@ returns-then-not-is_within-clause-any_moment g c = λ owner xs k keeps. book_wea
 -- what can be read again in a committee can be in the largest
 pub record-requires : goal.record-requires
 record-requires g c =
-    artifact_within-weaker (λ x within. g.met.S.Certificate.Read.grows c.args.members 65535 x c.requires within) (artifact.Finalization c.in-Ok.copy) (c.is_within.ensures.0 (grind c.if-not-is_within.false))
+    artifact_within-weaker (λ x within. g.met.S.Certificate.Read.grows c.args.members 65535 x c.requires within) (artifact.Finalization c.in-Ok.copy) (c.is_within.ensures.0 (grind (arith, c.if-not-is_within.false)))
 
 -- it is recorded
 pub returns-in-Ok-record-clause-keeps : goal.returns-in-Ok-record-clause-keeps
@@ -33,16 +33,16 @@ returns-in-Ok-record-clause-keeps g c = λ owner xs k follows.
 
 pub returns-in-Ok-record-clause-recordable : goal.returns-in-Ok-record-clause-recordable
 returns-in-Ok-record-clause-recordable g c =
-    subst (λ (d : Finalization g.row.S.Denot g.row.D.Denot g.row.S-PublicKey.Denot g.row.S-Signature.Denot g.row.S-Certificate.Denot). (Readable (artifact_fits g.D.Write.fits g.S.Signature.Write.fits g.S.Certificate.Write.fits) (artifact_within (g.S.Certificate.Read.within c.args.members))) (artifact.Finalization d)) c.in-Ok.ensures (c.encode_size.ensures.readable, c.is_within.ensures.0 (grind c.if-not-is_within.false))
+    subst (λ (d : Finalization g.row.S.Denot g.row.D.Denot g.row.S-PublicKey.Denot g.row.S-Signature.Denot g.row.S-Certificate.Denot). (Readable (artifact_fits g.D.Write.fits g.S.Signature.Write.fits g.S.Certificate.Write.fits) (artifact_within (g.S.Certificate.Read.within c.args.members))) (artifact.Finalization d)) c.in-Ok.ensures (c.encode_size.ensures.readable, c.is_within.ensures.0 (grind (arith, c.if-not-is_within.false)))
 
 pub returns-in-Ok-record-clause-any_moment : goal.returns-in-Ok-record-clause-any_moment
 returns-in-Ok-record-clause-any_moment g c = λ owner xs k keeps.
-    copy-behind g.K.Disk (artifact_spelling g.D.Write.spelling g.S.Signature.Write.spelling g.S.Certificate.Write.spelling) (Readable (artifact_fits g.D.Write.fits g.S.Signature.Write.fits g.S.Certificate.Write.fits) (artifact_within (g.S.Certificate.Read.within c.args.members))) xs c.args.floor.now c.in-Ok.copy _ _ c.in-Ok.ensures (c.encode_size.ensures.readable, c.is_within.ensures.0 (grind c.if-not-is_within.false)) (c.in-Ok-record.ensures.any_moment owner xs k keeps)
+    copy-behind g.K.Disk (artifact_spelling g.D.Write.spelling g.S.Signature.Write.spelling g.S.Certificate.Write.spelling) (Readable (artifact_fits g.D.Write.fits g.S.Signature.Write.fits g.S.Certificate.Write.fits) (artifact_within (g.S.Certificate.Read.within c.args.members))) xs c.args.floor.now c.in-Ok.copy _ _ c.in-Ok.ensures (c.encode_size.ensures.readable, c.is_within.ensures.0 (grind (arith, c.if-not-is_within.false))) (c.in-Ok-record.ensures.any_moment owner xs k keeps)
 
-pub returns-in-Err-record-in-Device-clause-any_moment : goal.returns-in-Err-record-in-Device-clause-any_moment
-returns-in-Err-record-in-Device-clause-any_moment g c = λ owner xs k keeps.
-    copy-behind g.K.Disk (artifact_spelling g.D.Write.spelling g.S.Signature.Write.spelling g.S.Certificate.Write.spelling) (Readable (artifact_fits g.D.Write.fits g.S.Signature.Write.fits g.S.Certificate.Write.fits) (artifact_within (g.S.Certificate.Read.within c.args.members))) xs c.args.floor.now c.in-Ok.copy _ _ c.in-Ok.ensures (c.encode_size.ensures.readable, c.is_within.ensures.0 (grind c.if-not-is_within.false)) (c.in-Err-record-in-Device.ensures.any_moment owner xs k keeps)
+pub returns-in-Err-Device-clause-any_moment : goal.returns-in-Err-Device-clause-any_moment
+returns-in-Err-Device-clause-any_moment g c = λ owner xs k keeps.
+    copy-behind g.K.Disk (artifact_spelling g.D.Write.spelling g.S.Signature.Write.spelling g.S.Certificate.Write.spelling) (Readable (artifact_fits g.D.Write.fits g.S.Signature.Write.fits g.S.Certificate.Write.fits) (artifact_within (g.S.Certificate.Read.within c.args.members))) xs c.args.floor.now c.in-Ok.copy _ _ c.in-Ok.ensures (c.encode_size.ensures.readable, c.is_within.ensures.0 (grind (arith, c.if-not-is_within.false))) (c.in-Err-Device.ensures.any_moment owner xs k keeps)
 
-pub returns-in-Err-record-clause-any_moment : goal.returns-in-Err-record-clause-any_moment
-returns-in-Err-record-clause-any_moment g c = λ owner xs k keeps.
-    copy-behind g.K.Disk (artifact_spelling g.D.Write.spelling g.S.Signature.Write.spelling g.S.Certificate.Write.spelling) (Readable (artifact_fits g.D.Write.fits g.S.Signature.Write.fits g.S.Certificate.Write.fits) (artifact_within (g.S.Certificate.Read.within c.args.members))) xs c.args.floor.now c.in-Ok.copy _ _ c.in-Ok.ensures (c.encode_size.ensures.readable, c.is_within.ensures.0 (grind c.if-not-is_within.false)) (c.in-Err-record.ensures.any_moment owner xs k keeps)
+pub returns-in-Err-Memory-clause-any_moment : goal.returns-in-Err-Memory-clause-any_moment
+returns-in-Err-Memory-clause-any_moment g c = λ owner xs k keeps.
+    copy-behind g.K.Disk (artifact_spelling g.D.Write.spelling g.S.Signature.Write.spelling g.S.Certificate.Write.spelling) (Readable (artifact_fits g.D.Write.fits g.S.Signature.Write.fits g.S.Certificate.Write.fits) (artifact_within (g.S.Certificate.Read.within c.args.members))) xs c.args.floor.now c.in-Ok.copy _ _ c.in-Ok.ensures (c.encode_size.ensures.readable, c.is_within.ensures.0 (grind (arith, c.if-not-is_within.false))) (c.in-Err-Memory.ensures.any_moment owner xs k keeps)
