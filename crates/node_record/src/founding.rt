@@ -111,6 +111,7 @@ impl<S: Scheme<D>, D: Digest, K: Disk> Ledger<S, D, K> {
     }
 
     /// Records a finalization that an opening brings behind what it found, where it lies above all that is final there.
+    #[tactic(auto, using(journal_books::specs::BooksLaws::same_not_failed))]
     fn found(
         self,
         alloc: Global,

@@ -1,4 +1,4 @@
-use Rattle.std.proofs.Common.{◌<◌, ◌∷◌, [], inl, ℕ, List, sym, subst, arith}
+use Rattle.std.proofs.Common.{◌<◌, ◌∷◌, [], inl, ℕ, List, sym, subst, arith, ap, Err}
 use Rattle.std.proofs.lemmas.Bool.Decides.{nat_tests}
 use Rattle.std.proofs.lemmas.List.{append-nil}
 use Rattle.types_codec.specs.Codec.{Readable}
@@ -8,9 +8,9 @@ use Rattle.messages_certificates.specs.declared.artifact.Artifact.TheVariants as
 use Rattle.voter_rules.specs.declared.floor.FloorFault.TheVariants as fault
 use Rattle.simplex_record.specs.Record.{entries, last_finalized}
 use Rattle.journal_books.specs.declared.disks.Disks.{Disks}
-use Rattle.journal_books.specs.Books.{Leave}
+use Rattle.journal_books.specs.Books.{HasFailed, HasNotFailed, Leave}
 use Rattle.journal_books.specs.BooksLaws.{since_leaves, since_weaker}
-use Rattle.node_record.specs.Ledger.{KeepsRecord}
+use Rattle.node_record.specs.Ledger.{KeepsRecord, disks_of}
 use Rattle.node_record.proofs.Appended.{May, appended-none, appended-one, fits-behind, since-behind}
 use Rattle.node_record.proofs.ledger.Ledger.found.Goals as goal
 
@@ -64,3 +64,9 @@ returns-in-Err-clause-any_moment_of_a_fault g c = λ xs before k lawful keeps ma
     (since-behind (g.S.Scheme.attests c.args.scheme.now) (g.S.Scheme.certifies c.args.scheme.now) c.args.owner c.args.floor.now (Readable (artifact_fits g.D.Write.fits g.S.Signature.Write.fits g.S.Certificate.Write.fits) (artifact_within (g.S.Certificate.Read.within (g.S.Scheme.size c.args.scheme.now)))) g.K.Disk (artifact_spelling g.D.Write.spelling g.S.Signature.Write.spelling g.S.Certificate.Write.spelling) xs before _ _
     (c.a_lawful_record_grows.ensures.further c.args.scheme.now c.args.owner xs (artifact.Finalization c.args.floor.now) lawful fits) above may since
     (rw c.participants.ensures.value at (c.in-Err.ensures.any_moment c.args.owner xs k keeps))))
+
+pub returns-in-Err-clause-device : goal.returns-in-Err-clause-device
+returns-in-Err-clause-device g c = λ is. subst (λ (on : Disks g.row.K.Denot). HasFailed g.K.Disk (disks_of c.args.self) on) (sym c.close.ensures) (c.in-Err.ensures.device (ap Err is))
+
+pub returns-in-Err-clause-no_device : goal.returns-in-Err-clause-no_device
+returns-in-Err-clause-no_device g c = λ isnt. subst (λ (on : Disks g.row.K.Denot). HasNotFailed g.K.Disk (disks_of c.args.self) on) (sym c.close.ensures) (c.in-Err.ensures.no_device isnt)

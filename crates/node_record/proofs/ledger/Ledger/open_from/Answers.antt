@@ -1,10 +1,13 @@
-use Rattle.std.proofs.Common.{⊎_elim, inl, inr, [], List, refl, sym, subst}
+use Rattle.std.proofs.Common.{⊎_elim, inl, inr, [], List, Option, ap, refl, sym, subst}
 use Rattle.std.proofs.lemmas.List.{append-nil}
 use Rattle.std.proofs.lemmas.Result.{IfErr-weaker, IfOk-weaker}
 use Rattle.types_quorum.specs.Counting.{Contains-nil}
 use Rattle.messages_certificates.specs.declared.artifact.Artifact.{Artifact}
 use Rattle.messages_certificates.specs.Artifact.{artifact_spelling}
 use Rattle.simplex_record.specs.Lawful.{IsLawful}
+use Rattle.messages_certificates.specs.ProposalCertificate.{Finalization}
+use Rattle.simplex_member.specs.Member.{AppendsFloor}
+use Rattle.simplex_member.specs.Setup.{brought_by}
 use Rattle.journal_books.specs.BooksLaws.{failed_then, leave_weaker, not_failed_then, since_weaker}
 use Rattle.node_record.specs.Ledger.{KeepsRecord}
 use Rattle.node_record.proofs.ledger.Ledger.open_from.Goals as goal
@@ -26,7 +29,7 @@ returns-in-Genesis-clause-opened g c =
       are = record {
         are_found = over.are_found;
         appended = record {
-          appends = refl;
+          appends = subst (λ (brought : Option (Finalization g.row.S.Denot g.row.D.Denot g.row.S-PublicKey.Denot g.row.S-Signature.Denot g.row.S-Certificate.Denot)). AppendsFloor brought over.found []) (sym (ap brought_by c.in-Genesis.is)) refl;
           recordable = λ x there. absurd (Contains-nil x there);
           lawful = subst (λ (l : List (Artifact g.row.S.Denot g.row.D.Denot g.row.S-PublicKey.Denot g.row.S-Signature.Denot g.row.S-Certificate.Denot)). IsLawful (g.S.Scheme.attests c.args.scheme.now) (g.S.Scheme.certifies c.args.scheme.now) c.args.owner l) (sym (append-nil over.found)) over.lawful;
         };
@@ -43,20 +46,20 @@ returns-in-Finalized-clause-opened g c =
     let over = c.in-Ok.ensures.opened in
     IfOk-weaker c.found.result _ _ (λ ledger holds.
     let it = holds over.found over.keeps over.lawful in
-    record { found = over.found; founded = it.founded; are = record { are_found = over.are_found; appended = it.appended }; keeps = it.keeps }) c.found.ensures.holds
+    record { found = over.found; founded = it.founded; are = record { are_found = over.are_found; appended = rw (sym (ap brought_by c.in-Finalized.is)) at it.appended }; keeps = it.keeps }) c.found.ensures.holds
 
 pub returns-in-Finalized-clause-any_moment : goal.returns-in-Finalized-clause-any_moment
 returns-in-Finalized-clause-any_moment g c =
     let over = c.in-Ok.ensures.opened in
     IfOk-weaker c.found.result _ _ (λ ledger leaves keeps.
-    since_weaker g.K.Disk _ _ (λ read. ⊎_elim (λ is. inl is) (λ (founded, appended, is). inr (over.found, founded, record { are_found = over.are_found; appended = appended }, is))) _ _
+    since_weaker g.K.Disk _ _ (λ read. ⊎_elim (λ is. inl is) (λ (founded, appended, is). inr (over.found, founded, record { are_found = over.are_found; appended = rw (sym (ap brought_by c.in-Finalized.is)) at appended }, is))) _ _
     (leaves over.found c.args.disks over.keeps over.lawful keeps (over.are_found.left keeps) (c.in-Ok.ensures.any_moment keeps))) c.found.ensures.any_moment
 
 pub returns-in-Finalized-clause-any_moment_of_a_fault : goal.returns-in-Finalized-clause-any_moment_of_a_fault
 returns-in-Finalized-clause-any_moment_of_a_fault g c =
     let over = c.in-Ok.ensures.opened in
     IfErr-weaker c.found.result _ _ (λ refused leaves keeps.
-    leave_weaker g.K.Disk _ _ (λ read. ⊎_elim (λ is. inl is) (λ (founded, appended, is). inr (over.found, founded, record { are_found = over.are_found; appended = appended }, is))) _ _
+    leave_weaker g.K.Disk _ _ (λ read. ⊎_elim (λ is. inl is) (λ (founded, appended, is). inr (over.found, founded, record { are_found = over.are_found; appended = rw (sym (ap brought_by c.in-Finalized.is)) at appended }, is))) _ _
     (leaves over.found c.args.disks over.keeps over.lawful keeps (over.are_found.left keeps) (c.in-Ok.ensures.any_moment keeps))) c.found.ensures.any_moment_of_a_fault
 
 -- whose faults are a disk's, or want of memory
@@ -81,3 +84,7 @@ returns-in-Finalized-clause-no_device g c = IfErr-weaker c.found.result _ _ (λ 
 
 pub returns-in-Finalized-clause-no_fault : goal.returns-in-Finalized-clause-no_fault
 returns-in-Finalized-clause-no_fault g c = IfOk-weaker c.found.result _ _ (λ ledger told. not_failed_then g.K.Disk _ _ _ c.in-Ok.ensures.no_fault told) c.found.ensures.no_fault
+
+-- it was tested as what the opening brings
+pub found-requires-clause-sound : goal.found-requires-clause-sound
+found-requires-clause-sound g c = λ fault. rw c.in-Finalized.is at (c.requires.sound fault)
