@@ -217,6 +217,10 @@ left_at_index g e k f Readable brought now {me = me} {index = index} setup on ba
 pub left_back : {K : Type 0} (k : disk.Ghosts K) (P : List (List ℕ) → Type 0) (on back other : Disks K) → back ≡ other → Leave k on other P → Leave k on back P
 left_back {K} k P on back other is leaves = subst (λ (x : Disks K). Leave k on x P) (sym is) leaves
 
+-- a book that is the same is left the same
+pub since_back : {K M : Type 0} (k : disk.Ghosts K) (P : List (List ℕ) → Type 0) (on : Disks K) (back other : Books M K) → back ≡ other → LeaveSince k on other P → LeaveSince k on back P
+since_back {K} {M} k P on back other is leaves = subst (λ (x : Books M K). LeaveSince k on x P) (sym is) leaves
+
 -- that memory ran out, or the disk failed, is told by no argument
 pub told_late : (Q : OpenFault → Type 0) (why : OpenFault) → (why ≡ open_fault.Memory) ⊎ (why ≡ open_fault.Device) → IfSome (early why) Q
 told_late Q why is = subst (λ (o : Option OpenFault). IfSome o Q) (sym (late why (⊎_elim (λ memory. inr (inl memory)) (λ device. inl device) is))) tt

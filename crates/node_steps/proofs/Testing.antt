@@ -1,5 +1,5 @@
 -- The tests of an opening by its arguments.
-use Rattle.std.proofs.Common.{◌≡◌, ◌⊎◌, ⊎_elim, ◌∷◌, [], ℕ, ◌<◌, ◌≤◌, ◌+◌, ◌-◌, ◌^◌, inl, inr, Option, Some, None, refl, arith}
+use Rattle.std.proofs.Common.{◌≡◌, ◌⊎◌, ⊎_elim, ◌∷◌, [], ℕ, ◌<◌, ◌≤◌, ◌+◌, ◌-◌, ◌^◌, inl, inr, List, Option, Some, None, refl, arith}
 use Rattle.types_core.specs.declared.scheme.Scheme.{Ghosts}
 use Rattle.voter_rules.specs.declared.config.Config.{Config}
 use Rattle.voter_rules.specs.declared.config.ConfigFault.{ConfigFault}

@@ -6,7 +6,7 @@ use Rattle.simplex_record.specs.declared.owner.Owner.{Owner}
 use Rattle.voter_rules.specs.declared.floor.FloorFault.{FloorFault}
 use Rattle.voter_rules.specs.Floor.{AppliesToFloor}
 use Rattle.journal_books.specs.Books as words
-use Rattle.journal_books.specs.Books.{HasFailed, HasNotFailed, LeaveSince}
+use Rattle.journal_books.specs.Books.{HasFailed, HasNotFailed}
 use Rattle.journal_books.specs.BooksLaws.{failed_then, leave_weaker, not_failed_then, same_not_failed, since_leaves, since_weaker}
 use Rattle.simplex_member.specs.First.{IsFirst}
 use Rattle.simplex_member.specs.Packet.{formats}
@@ -15,7 +15,7 @@ use Rattle.node_core.specs.SettingUp.{EndsActs}
 use Rattle.node_steps.specs.Keeps.{disks_of}
 use Rattle.node_steps.specs.Opening.{open_tests}
 use Rattle.node_steps.proofs.OfRecord.{never_device, never_early, never_late, never_memory}
-use Rattle.node_steps.proofs.Stepped.{left_at_index, left_back, told_late}
+use Rattle.node_steps.proofs.Stepped.{left_at_index, left_back, since_back, told_late}
 use Rattle.node_steps.proofs.Whole.{left-at-opening, open-at-opening, through-at-opening}
 use Rattle.node_steps.proofs.node.Node.open_on.Goals as goal
 
@@ -35,18 +35,18 @@ returns-in-Err-clause-no_device g c = λ other. same_not_failed g.K.Disk c.args.
 pub returns-in-Err-clause-untouched : goal.returns-in-Err-clause-untouched
 returns-in-Err-clause-untouched g c = λ told. absurd (never_early c.in-Err.fault c.in-Err.ensures.early told)
 
-pub returns-in-Err-open_from-clause-untouched : goal.returns-in-Err-open_from-clause-untouched
-returns-in-Err-open_from-clause-untouched g c = λ told. c.in-Err-open_from.ensures.untouched (never_device c.in-Err-open_from.refused.0 told) (never_memory c.in-Err-open_from.refused.0 told)
+pub returns-clause-untouched : goal.returns-clause-untouched
+returns-clause-untouched g c = λ told. c.in-Err-opened.ensures.untouched (never_device c.in-Err-opened.refused.0 told) (never_memory c.in-Err-opened.refused.0 told)
 
-pub returns-in-Err-open_over-clause-untouched : goal.returns-in-Err-open_over-clause-untouched
-returns-in-Err-open_over-clause-untouched g c = λ told. absurd (never_late c.in-Err-open_over.refused.0 (inl c.in-Err-open_over.ensures.memory.0) told)
+pub returns-in-Ok-opened-clause-untouched : goal.returns-in-Ok-opened-clause-untouched
+returns-in-Ok-opened-clause-untouched g c = λ told. absurd (never_late c.in-Err-open_over.refused.0 (inl c.in-Err-open_over.ensures.memory.0) told)
 
 pub returns-in-Ok-open_over-clause-untouched : goal.returns-in-Ok-open_over-clause-untouched
 returns-in-Ok-open_over-clause-untouched g c = IfErr-weaker c.begin.result _ _ (λ r late told. absurd (never_late r.0 late told)) c.begin.ensures.memory
 
 -- what the ledger left, where it did not open
-pub returns-in-Err-open_from-clause-any_moment_of_a_fault : goal.returns-in-Err-open_from-clause-any_moment_of_a_fault
-returns-in-Err-open_from-clause-any_moment_of_a_fault g c =
+pub returns-clause-any_moment_of_a_fault : goal.returns-clause-any_moment_of_a_fault
+returns-clause-any_moment_of_a_fault g c =
     let me = c.in-Ok.me in
     let own = subst (λ (z : g.row.S.Denot). g.S.Scheme.own z ≡ Some me) c.deref.ensures c.in-Ok.ensures.member in
     let time = subst (λ (z : g.row.S.Denot). IsInTime (setup_of g.S.Scheme g.L.Elector c.args.config z c.args.elector 0) c.args.now) c.deref.ensures c.in-Ok.ensures.in_time in
@@ -57,11 +57,11 @@ returns-in-Err-open_from-clause-any_moment_of_a_fault g c =
     λ index same keeps. left_at_index g.S.Scheme g.L.Elector g.K.Disk ((formats {S = g.row.S.Denot} {P = g.row.S-PublicKey.Denot} g.D.PartialEq.eq g.D.Write.spelling g.S.Signature.Write.spelling g.S.Certificate.Write.spelling g.D.Read.reading g.S.Signature.Read.reading g.S.Certificate.Read.reading) (g.S.Scheme.size c.args.scheme.value)) _ _ c.args.now (λ (i : ℕ). setup_of g.S.Scheme g.L.Elector c.args.config c.args.scheme.value c.args.elector i) c.args.disks _ own same
     (leave_weaker g.K.Disk _ _ (left-at-opening g.S.Scheme g.L.Elector g.K.Disk (formats {S = g.row.S.Denot} {P = g.row.S-PublicKey.Denot} g.D.PartialEq.eq g.D.Write.spelling g.S.Signature.Write.spelling g.S.Certificate.Write.spelling g.D.Read.reading g.S.Signature.Read.reading g.S.Certificate.Read.reading) _ (λ n. Readable (artifact_fits g.D.Write.fits g.S.Signature.Write.fits g.S.Certificate.Write.fits) (artifact_within (g.S.Certificate.Read.within n)))
     c.packets_are_read_back.ensures.recordable c.packets_are_read_back.ensures.exact c.lawful_records_are_opened.ensures
-    c.args.config c.args.elector me c.args.disks c.args.now settings c.args.scheme.value settings.scheme.value c.deref-2.result.now c.settings_of-settings.ensures.scheme c.deref-2.ensures few set_up time) _ _ (c.in-Err-open_from.ensures.any_moment_of_a_fault keeps))
+    c.args.config c.args.elector me c.args.disks c.args.now settings c.args.scheme.value settings.scheme.value c.deref-2.result.now c.settings_of-settings.ensures.scheme c.deref-2.ensures few set_up time) _ _ (c.in-Err-opened.ensures.any_moment_of_a_fault keeps))
 
 -- where the record could not be gone through, the disks are as the ledger left them
-pub returns-in-Err-open_over-clause-any_moment_of_a_fault : goal.returns-in-Err-open_over-clause-any_moment_of_a_fault
-returns-in-Err-open_over-clause-any_moment_of_a_fault g c =
+pub returns-in-Ok-opened-clause-any_moment_of_a_fault : goal.returns-in-Ok-opened-clause-any_moment_of_a_fault
+returns-in-Ok-opened-clause-any_moment_of_a_fault g c =
     let me = c.in-Ok.me in
     let own = subst (λ (z : g.row.S.Denot). g.S.Scheme.own z ≡ Some me) c.deref.ensures c.in-Ok.ensures.member in
     let time = subst (λ (z : g.row.S.Denot). IsInTime (setup_of g.S.Scheme g.L.Elector c.args.config z c.args.elector 0) c.args.now) c.deref.ensures c.in-Ok.ensures.in_time in
@@ -73,14 +73,14 @@ returns-in-Err-open_over-clause-any_moment_of_a_fault g c =
     (left_back g.K.Disk _ c.args.disks _ _ c.in-Err-open_over.ensures.memory.1
     (since_leaves g.K.Disk _ _ _ (λ read before. inl before) (since_weaker g.K.Disk _ _ (left-at-opening g.S.Scheme g.L.Elector g.K.Disk (formats {S = g.row.S.Denot} {P = g.row.S-PublicKey.Denot} g.D.PartialEq.eq g.D.Write.spelling g.S.Signature.Write.spelling g.S.Certificate.Write.spelling g.D.Read.reading g.S.Signature.Read.reading g.S.Certificate.Read.reading) _ (λ n. Readable (artifact_fits g.D.Write.fits g.S.Signature.Write.fits g.S.Certificate.Write.fits) (artifact_within (g.S.Certificate.Read.within n)))
     c.packets_are_read_back.ensures.recordable c.packets_are_read_back.ensures.exact c.lawful_records_are_opened.ensures
-    c.args.config c.args.elector me c.args.disks c.args.now settings c.args.scheme.value settings.scheme.value c.deref-2.result.now c.settings_of-settings.ensures.scheme c.deref-2.ensures few set_up time) _ _ (c.in-Ok-open_from.ensures.any_moment keeps))))
+    c.args.config c.args.elector me c.args.disks c.args.now settings c.args.scheme.value settings.scheme.value c.deref-2.result.now c.settings_of-settings.ensures.scheme c.deref-2.ensures few set_up time) _ _ (c.in-Ok-opened.ensures.any_moment keeps))))
 
 -- behind the ledger no argument is wrong
-pub returns-in-Err-open_from-clause-later : goal.returns-in-Err-open_from-clause-later
-returns-in-Err-open_from-clause-later g c = λ none. subst (λ (z : g.row.S.Denot). IsFirst (open_tests g.S.Scheme (setup_of g.S.Scheme g.L.Elector c.args.config z c.args.elector 0) c.args.config c.args.now) None) c.deref.ensures c.in-Ok.ensures.good
+pub returns-clause-later : goal.returns-clause-later
+returns-clause-later g c = λ none. subst (λ (z : g.row.S.Denot). IsFirst (open_tests g.S.Scheme (setup_of g.S.Scheme g.L.Elector c.args.config z c.args.elector 0) c.args.config c.args.now) None) c.deref.ensures c.in-Ok.ensures.good
 
-pub returns-in-Err-open_over-clause-later : goal.returns-in-Err-open_over-clause-later
-returns-in-Err-open_over-clause-later g c = λ none. subst (λ (z : g.row.S.Denot). IsFirst (open_tests g.S.Scheme (setup_of g.S.Scheme g.L.Elector c.args.config z c.args.elector 0) c.args.config c.args.now) None) c.deref.ensures c.in-Ok.ensures.good
+pub returns-in-Ok-opened-clause-later : goal.returns-in-Ok-opened-clause-later
+returns-in-Ok-opened-clause-later g c = λ none. subst (λ (z : g.row.S.Denot). IsFirst (open_tests g.S.Scheme (setup_of g.S.Scheme g.L.Elector c.args.config z c.args.elector 0) c.args.config c.args.now) None) c.deref.ensures c.in-Ok.ensures.good
 
 pub returns-in-Ok-open_over-clause-no_early : goal.returns-in-Ok-open_over-clause-no_early
 returns-in-Ok-open_over-clause-no_early g c =
@@ -107,15 +107,15 @@ returns-in-Ok-open_over-clause-contradiction g c =
 -- nor has a disk failed
 pub returns-in-Ok-open_over-clause-device : goal.returns-in-Ok-open_over-clause-device
 returns-in-Ok-open_over-clause-device g c =
-    IfErr-weaker c.begin.result _ _ (λ r told is. failed_then g.K.Disk _ _ _ c.in-Ok-open_from.ensures.no_fault (subst (λ (b : _). HasFailed g.K.Disk (words.disks_of b) r.1) c.in-Ok-open_over.ensures.book (told is))) c.begin.ensures.device
+    IfErr-weaker c.begin.result _ _ (λ r told is. failed_then g.K.Disk _ _ _ c.in-Ok-opened.ensures.no_fault (subst (λ (b : _). HasFailed g.K.Disk (words.disks_of b) r.1) c.in-Ok-open_over.ensures.book (told is))) c.begin.ensures.device
 
 pub returns-in-Ok-open_over-clause-no_device : goal.returns-in-Ok-open_over-clause-no_device
 returns-in-Ok-open_over-clause-no_device g c =
-    IfErr-weaker c.begin.result _ _ (λ r told isnt. not_failed_then g.K.Disk _ _ _ c.in-Ok-open_from.ensures.no_fault (subst (λ (b : _). HasNotFailed g.K.Disk (words.disks_of b) r.1) c.in-Ok-open_over.ensures.book (told isnt))) c.begin.ensures.no_device
+    IfErr-weaker c.begin.result _ _ (λ r told isnt. not_failed_then g.K.Disk _ _ _ c.in-Ok-opened.ensures.no_fault (subst (λ (b : _). HasNotFailed g.K.Disk (words.disks_of b) r.1) c.in-Ok-open_over.ensures.book (told isnt))) c.begin.ensures.no_device
 
 pub returns-in-Ok-open_over-clause-no_fault : goal.returns-in-Ok-open_over-clause-no_fault
 returns-in-Ok-open_over-clause-no_fault g c =
-    IfOk-weaker c.begin.result _ _ (λ r told. not_failed_then g.K.Disk _ _ _ c.in-Ok-open_from.ensures.no_fault (subst (λ (b : _). HasNotFailed g.K.Disk (words.disks_of b) (disks_of r.0)) c.in-Ok-open_over.ensures.book told)) c.begin.ensures.no_fault
+    IfOk-weaker c.begin.result _ _ (λ r told. not_failed_then g.K.Disk _ _ _ c.in-Ok-opened.ensures.no_fault (subst (λ (b : _). HasNotFailed g.K.Disk (words.disks_of b) (disks_of r.0)) c.in-Ok-open_over.ensures.book told)) c.begin.ensures.no_fault
 
 -- the record that was opened may be gone through
 pub open_over-requires-clause-ready : goal.open_over-requires-clause-ready
@@ -130,7 +130,7 @@ open_over-requires-clause-ready g c =
       me,
       through-at-opening g.S.Scheme g.L.Elector g.K.Disk (formats {S = g.row.S.Denot} {P = g.row.S-PublicKey.Denot} g.D.PartialEq.eq g.D.Write.spelling g.S.Signature.Write.spelling g.S.Certificate.Write.spelling g.D.Read.reading g.S.Signature.Read.reading g.S.Certificate.Read.reading) _ (λ n. Readable (artifact_fits g.D.Write.fits g.S.Signature.Write.fits g.S.Certificate.Write.fits) (artifact_within (g.S.Certificate.Read.within n)))
           c.packets_are_read_back.ensures.recordable c.packets_are_read_back.ensures.exact c.lawful_records_are_opened.ensures
-          c.args.config c.args.elector me c.args.disks c.args.now settings c.args.scheme.value settings.scheme.value c.deref-2.result.now c.settings_of-settings.ensures.scheme c.deref-2.ensures few set_up time c.in-Ok-open_from.ledger c.in-Ok-open_from.ensures.opened,
+          c.args.config c.args.elector me c.args.disks c.args.now settings c.args.scheme.value settings.scheme.value c.deref-2.result.now c.settings_of-settings.ensures.scheme c.deref-2.ensures few set_up time c.in-Ok-opened.ledger c.in-Ok-opened.ensures.opened,
     )
 
 pub returns-in-Ok-open_over-clause-opened : goal.returns-in-Ok-open_over-clause-opened
@@ -146,7 +146,7 @@ returns-in-Ok-open_over-clause-opened g c =
     let s = setup_of g.S.Scheme g.L.Elector c.args.config c.args.scheme.value c.args.elector me in
     let is_open = open-at-opening g.S.Scheme g.L.Elector g.K.Disk (formats {S = g.row.S.Denot} {P = g.row.S-PublicKey.Denot} g.D.PartialEq.eq g.D.Write.spelling g.S.Signature.Write.spelling g.S.Certificate.Write.spelling g.D.Read.reading g.S.Signature.Read.reading g.S.Certificate.Read.reading) _ (λ n. Readable (artifact_fits g.D.Write.fits g.S.Signature.Write.fits g.S.Certificate.Write.fits) (artifact_within (g.S.Certificate.Read.within n)))
     c.packets_are_read_back.ensures.recordable c.packets_are_read_back.ensures.exact c.lawful_records_are_opened.ensures
-    c.args.config c.args.elector me c.args.disks c.args.now settings c.args.scheme.value settings.scheme.value c.deref-2.result.now c.settings_of-settings.ensures.scheme c.deref-2.ensures few set_up time c.in-Ok-open_from.ledger c.in-Ok-open_from.ensures.opened c.in-Ok-open_over.node c.in-Ok-open_over.actions.items
+    c.args.config c.args.elector me c.args.disks c.args.now settings c.args.scheme.value settings.scheme.value c.deref-2.result.now c.settings_of-settings.ensures.scheme c.deref-2.ensures few set_up time c.in-Ok-opened.ledger c.in-Ok-opened.ensures.opened c.in-Ok-open_over.node c.in-Ok-open_over.actions.items
     (c.in-Ok-open_over.ensures.opened (brought_by c.args.config.floor) c.args.disks size me) in
     IfOk-weaker c.begin.result _ _ (λ r settles. (me, own, settles size s (brought_by c.args.config.floor) c.args.disks c.args.now refl is_open)) c.begin.ensures.opened
 
@@ -163,13 +163,13 @@ returns-in-Ok-open_over-clause-any_moment g c =
     let s = λ (i : ℕ). setup_of g.S.Scheme g.L.Elector c.args.config c.args.scheme.value c.args.elector i in
     let is_open = open-at-opening g.S.Scheme g.L.Elector g.K.Disk (formats {S = g.row.S.Denot} {P = g.row.S-PublicKey.Denot} g.D.PartialEq.eq g.D.Write.spelling g.S.Signature.Write.spelling g.S.Certificate.Write.spelling g.D.Read.reading g.S.Signature.Read.reading g.S.Certificate.Read.reading) _ (λ n. Readable (artifact_fits g.D.Write.fits g.S.Signature.Write.fits g.S.Certificate.Write.fits) (artifact_within (g.S.Certificate.Read.within n)))
     c.packets_are_read_back.ensures.recordable c.packets_are_read_back.ensures.exact c.lawful_records_are_opened.ensures
-    c.args.config c.args.elector me c.args.disks c.args.now settings c.args.scheme.value settings.scheme.value c.deref-2.result.now c.settings_of-settings.ensures.scheme c.deref-2.ensures few set_up time c.in-Ok-open_from.ledger c.in-Ok-open_from.ensures.opened c.in-Ok-open_over.node c.in-Ok-open_over.actions.items
+    c.args.config c.args.elector me c.args.disks c.args.now settings c.args.scheme.value settings.scheme.value c.deref-2.result.now c.settings_of-settings.ensures.scheme c.deref-2.ensures few set_up time c.in-Ok-opened.ledger c.in-Ok-opened.ensures.opened c.in-Ok-open_over.node c.in-Ok-open_over.actions.items
     (c.in-Ok-open_over.ensures.opened (brought_by c.args.config.floor) c.args.disks size me) in
-    let before = λ keeps. since_weaker g.K.Disk _ _ (left-at-opening g.S.Scheme g.L.Elector g.K.Disk (formats {S = g.row.S.Denot} {P = g.row.S-PublicKey.Denot} g.D.PartialEq.eq g.D.Write.spelling g.S.Signature.Write.spelling g.S.Certificate.Write.spelling g.D.Read.reading g.S.Signature.Read.reading g.S.Certificate.Read.reading) _ (λ n. Readable (artifact_fits g.D.Write.fits g.S.Signature.Write.fits g.S.Certificate.Write.fits) (artifact_within (g.S.Certificate.Read.within n)))
+    let before = λ (keeps : g.K.Disk.keeps). since_weaker g.K.Disk _ _ (left-at-opening g.S.Scheme g.L.Elector g.K.Disk (formats {S = g.row.S.Denot} {P = g.row.S-PublicKey.Denot} g.D.PartialEq.eq g.D.Write.spelling g.S.Signature.Write.spelling g.S.Certificate.Write.spelling g.D.Read.reading g.S.Signature.Read.reading g.S.Certificate.Read.reading) _ (λ n. Readable (artifact_fits g.D.Write.fits g.S.Signature.Write.fits g.S.Certificate.Write.fits) (artifact_within (g.S.Certificate.Read.within n)))
     c.packets_are_read_back.ensures.recordable c.packets_are_read_back.ensures.exact c.lawful_records_are_opened.ensures
-    c.args.config c.args.elector me c.args.disks c.args.now settings c.args.scheme.value settings.scheme.value c.deref-2.result.now c.settings_of-settings.ensures.scheme c.deref-2.ensures few set_up time) _ _ (c.in-Ok-open_from.ensures.any_moment keeps) in
+    c.args.config c.args.elector me c.args.disks c.args.now settings c.args.scheme.value settings.scheme.value c.deref-2.result.now c.settings_of-settings.ensures.scheme c.deref-2.ensures few set_up time) _ _ (c.in-Ok-opened.ensures.any_moment keeps) in
     IfOk-weaker c.begin.result _ _ (λ r leaves index same keeps. left_at_index g.S.Scheme g.L.Elector g.K.Disk ((formats {S = g.row.S.Denot} {P = g.row.S-PublicKey.Denot} g.D.PartialEq.eq g.D.Write.spelling g.S.Signature.Write.spelling g.S.Certificate.Write.spelling g.D.Read.reading g.S.Signature.Read.reading g.S.Certificate.Read.reading) size) _ _ c.args.now s c.args.disks _ own same
-    (leaves size (s me) (brought_by c.args.config.floor) c.args.disks c.args.now refl is_open keeps (subst (λ (b : _). LeaveSince g.K.Disk c.args.disks b _) (sym c.in-Ok-open_over.ensures.book) (before keeps)))) c.begin.ensures.any_moment
+    (leaves size (s me) (brought_by c.args.config.floor) c.args.disks c.args.now refl is_open keeps (since_back g.K.Disk _ c.args.disks _ _ c.in-Ok-open_over.ensures.book (before keeps)))) c.begin.ensures.any_moment
 
 pub returns-in-Ok-open_over-clause-any_moment_of_a_fault : goal.returns-in-Ok-open_over-clause-any_moment_of_a_fault
 returns-in-Ok-open_over-clause-any_moment_of_a_fault g c =
@@ -184,17 +184,17 @@ returns-in-Ok-open_over-clause-any_moment_of_a_fault g c =
     let s = λ (i : ℕ). setup_of g.S.Scheme g.L.Elector c.args.config c.args.scheme.value c.args.elector i in
     let is_open = open-at-opening g.S.Scheme g.L.Elector g.K.Disk (formats {S = g.row.S.Denot} {P = g.row.S-PublicKey.Denot} g.D.PartialEq.eq g.D.Write.spelling g.S.Signature.Write.spelling g.S.Certificate.Write.spelling g.D.Read.reading g.S.Signature.Read.reading g.S.Certificate.Read.reading) _ (λ n. Readable (artifact_fits g.D.Write.fits g.S.Signature.Write.fits g.S.Certificate.Write.fits) (artifact_within (g.S.Certificate.Read.within n)))
     c.packets_are_read_back.ensures.recordable c.packets_are_read_back.ensures.exact c.lawful_records_are_opened.ensures
-    c.args.config c.args.elector me c.args.disks c.args.now settings c.args.scheme.value settings.scheme.value c.deref-2.result.now c.settings_of-settings.ensures.scheme c.deref-2.ensures few set_up time c.in-Ok-open_from.ledger c.in-Ok-open_from.ensures.opened c.in-Ok-open_over.node c.in-Ok-open_over.actions.items
+    c.args.config c.args.elector me c.args.disks c.args.now settings c.args.scheme.value settings.scheme.value c.deref-2.result.now c.settings_of-settings.ensures.scheme c.deref-2.ensures few set_up time c.in-Ok-opened.ledger c.in-Ok-opened.ensures.opened c.in-Ok-open_over.node c.in-Ok-open_over.actions.items
     (c.in-Ok-open_over.ensures.opened (brought_by c.args.config.floor) c.args.disks size me) in
-    let before = λ keeps. since_weaker g.K.Disk _ _ (left-at-opening g.S.Scheme g.L.Elector g.K.Disk (formats {S = g.row.S.Denot} {P = g.row.S-PublicKey.Denot} g.D.PartialEq.eq g.D.Write.spelling g.S.Signature.Write.spelling g.S.Certificate.Write.spelling g.D.Read.reading g.S.Signature.Read.reading g.S.Certificate.Read.reading) _ (λ n. Readable (artifact_fits g.D.Write.fits g.S.Signature.Write.fits g.S.Certificate.Write.fits) (artifact_within (g.S.Certificate.Read.within n)))
+    let before = λ (keeps : g.K.Disk.keeps). since_weaker g.K.Disk _ _ (left-at-opening g.S.Scheme g.L.Elector g.K.Disk (formats {S = g.row.S.Denot} {P = g.row.S-PublicKey.Denot} g.D.PartialEq.eq g.D.Write.spelling g.S.Signature.Write.spelling g.S.Certificate.Write.spelling g.D.Read.reading g.S.Signature.Read.reading g.S.Certificate.Read.reading) _ (λ n. Readable (artifact_fits g.D.Write.fits g.S.Signature.Write.fits g.S.Certificate.Write.fits) (artifact_within (g.S.Certificate.Read.within n)))
     c.packets_are_read_back.ensures.recordable c.packets_are_read_back.ensures.exact c.lawful_records_are_opened.ensures
-    c.args.config c.args.elector me c.args.disks c.args.now settings c.args.scheme.value settings.scheme.value c.deref-2.result.now c.settings_of-settings.ensures.scheme c.deref-2.ensures few set_up time) _ _ (c.in-Ok-open_from.ensures.any_moment keeps) in
+    c.args.config c.args.elector me c.args.disks c.args.now settings c.args.scheme.value settings.scheme.value c.deref-2.result.now c.settings_of-settings.ensures.scheme c.deref-2.ensures few set_up time) _ _ (c.in-Ok-opened.ensures.any_moment keeps) in
     IfErr-weaker c.begin.result _ _ (λ r leaves index same keeps. left_at_index g.S.Scheme g.L.Elector g.K.Disk ((formats {S = g.row.S.Denot} {P = g.row.S-PublicKey.Denot} g.D.PartialEq.eq g.D.Write.spelling g.S.Signature.Write.spelling g.S.Certificate.Write.spelling g.D.Read.reading g.S.Signature.Read.reading g.S.Certificate.Read.reading) size) _ _ c.args.now s c.args.disks _ own same
-    (leaves size (s me) (brought_by c.args.config.floor) c.args.disks c.args.now refl is_open keeps (subst (λ (b : _). LeaveSince g.K.Disk c.args.disks b _) (sym c.in-Ok-open_over.ensures.book) (before keeps)))) c.begin.ensures.any_moment_of_a_fault
+    (leaves size (s me) (brought_by c.args.config.floor) c.args.disks c.args.now refl is_open keeps (since_back g.K.Disk _ c.args.disks _ _ c.in-Ok-open_over.ensures.book (before keeps)))) c.begin.ensures.any_moment_of_a_fault
 
 -- what the ledger wants: what is started from has no fault, and the members are few
-pub open_from-requires-clause-sound : goal.open_from-requires-clause-sound
-open_from-requires-clause-sound g c =
+pub open_from-opened-requires-clause-sound : goal.open_from-opened-requires-clause-sound
+open_from-opened-requires-clause-sound g c =
     let me = c.in-Ok.me in
     let own = subst (λ (z : g.row.S.Denot). g.S.Scheme.own z ≡ Some me) c.deref.ensures c.in-Ok.ensures.member in
     let time = subst (λ (z : g.row.S.Denot). IsInTime (setup_of g.S.Scheme g.L.Elector c.args.config z c.args.elector 0) c.args.now) c.deref.ensures c.in-Ok.ensures.in_time in
@@ -206,7 +206,7 @@ open_from-requires-clause-sound g c =
     subst (λ (o : Owner). (x : FloorFault) → AppliesToFloor (g.S.Scheme.certifies c.deref-2.result.now) o.term_length o.epoch c.args.config.floor x → ⊥) (sym set_up.owner_is)
     (subst (λ (z : g.row.S.Denot). (x : FloorFault) → AppliesToFloor (g.S.Scheme.certifies z) (setup_of g.S.Scheme g.L.Elector c.args.config c.args.scheme.value c.args.elector 0).voter.length c.args.config.epoch c.args.config.floor x → ⊥) (sym (c.deref-2.ensures ∙ c.settings_of-settings.ensures.scheme)) sound)
 
-pub open_from-requires-clause-few : goal.open_from-requires-clause-few
-open_from-requires-clause-few g c =
+pub open_from-opened-requires-clause-few : goal.open_from-opened-requires-clause-few
+open_from-opened-requires-clause-few g c =
     let few = subst (λ (z : g.row.S.Denot). g.S.Scheme.size z ≤ 65535) c.deref.ensures c.in-Ok.ensures.few in
     subst (λ (z : g.row.S.Denot). g.S.Scheme.size z ≤ 65535) (sym (c.deref-2.ensures ∙ c.settings_of-settings.ensures.scheme)) few

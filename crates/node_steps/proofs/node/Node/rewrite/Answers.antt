@@ -1,3 +1,4 @@
+use Rattle.std.proofs.Common.{sym, ◌∙◌}
 use Rattle.node_core.specs.Telling.{tells_as_many}
 use Rattle.node_steps.proofs.node.Node.rewrite.Goals as goal
 
@@ -10,7 +11,10 @@ returns-in-Ok-clause-rewritten g c = λ floor is s h k.
     record { floor = so.floor; at = so.at; rewritten = so.rewritten; keeps = record { running = k.running; core = so.keeps } }
 
 pub returns-in-Ok-clause-none_if_it_begins_there : goal.returns-in-Ok-clause-none_if_it_begins_there
-returns-in-Ok-clause-none_if_it_begins_there g c = λ s h k. c.rewrite.ensures.none_if_it_begins_there s h k.core
+returns-in-Ok-clause-none_if_it_begins_there g c = λ s h k begins. sym c.in-Ok.is ∙ c.rewrite.ensures.none_if_it_begins_there s h k.core begins
+
+pub returns-in-Err-clause-none_if_it_begins_there : goal.returns-in-Err-clause-none_if_it_begins_there
+returns-in-Err-clause-none_if_it_begins_there g c = λ s h k begins. sym c.in-Err.is ∙ c.rewrite.ensures.none_if_it_begins_there s h k.core begins
 
 pub returns-in-Ok-clause-any_moment : goal.returns-in-Ok-clause-any_moment
 returns-in-Ok-clause-any_moment g c = λ s h k. c.rewrite.ensures.any_moment s h k.core
