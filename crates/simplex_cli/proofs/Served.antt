@@ -59,10 +59,10 @@ module _ {S L D P G C K : Type 0} (g : Ghosts S D P G C) (e : elector.Ghosts L S
 module _ {S L D P G C K : Type 0} (g : Ghosts S D P G C) (e : elector.Ghosts L S D P G C) (k : disk.Ghosts K) (f : Formats S D P G C) (s : Setup S D C)
     (F : D → Type 0) (p : D → List ℕ) (w : Reply S D P G C → List ℕ) (q : List ℕ → Result (D × List ℕ) CodecError) where
   -- a run that ended before its input, by what is said of the node that was left
-  broken : {A : Type 0} (h : History S D P G C) (node : Node S L D K P G C) (left : Disks K) (ReadFailed : Type 0) (why : IoFault) (given text more : Option (List ℕ)) → left ≡ disks_of node
+  broken : (A : Type 0) (h : History S D P G C) (node : Node S L D K P G C) (left : Disks K) (ReadFailed : Type 0) (why : IoFault) (given text more : Option (List ℕ)) → left ≡ disks_of node
       → ((end : History S D P G C) → NodeKeeps g e k f s node end → k.keeps → (read : List (List ℕ)) → MayBeRead k left read → ReadsAsKept g f s read end)
       → EndsIn F p w {A = A} q (RunsTo g e k f s h node) (RunFails g e k f s h node) ReadFailed (Err why) given text more → ServesOn g k f s left F p w q {A = A} h ReadFailed (Err why) given text more
-  broken {A} h node left ReadFailed why given text more back kept =
+  broken A h node left ReadFailed why given text more back kept =
       ends_as F p w q (RunsTo g e k f s h node) (RunFails g e k f s h node) ReadFailed (Answers g k f s left {A = A} (Err why) h) (AnswersBefore g k f s left h)
       (λ events replies runs. record { end = runs.end; run = runs.run; leaves = kept runs.end runs.keeps })
       (λ events replies event cause fails. record {
@@ -73,7 +73,7 @@ module _ {S L D P G C K : Type 0} (g : Ghosts S D P G C) (e : elector.Ghosts L S
             (book_leaves k (IsReached g f s fails.runs.end event) f.artifact (kept_of s.voter.length fails.runs.end) (book_of fails.before) (book_of node) (fails.runs.keeps.core.ledger.journal keeps) (fails.any_moment keeps))
             (subst (λ (on : Disks K). MayBeRead k on read) back may);
       })
-      (Err why) given text more
+      {A = A} (Err why) given text more
 
   -- a run to its input's end, or one that ended before
   pub served : {A : Type 0} (h : History S D P G C) → NoneDue g f s h → (node : Node S L D K P G C) (left : Disks K) (ReadFailed : Type 0) (r : Result A IoFault) (given text more : Option (List ℕ))
@@ -93,7 +93,7 @@ module _ {S L D P G C K : Type 0} (g : Ghosts S D P G C) (e : elector.Ghosts L S
     };
     written = ends.written;
   }
-  served h due node left ReadFailed (Err why) given text more back whole kept ends = broken h node left ReadFailed why given text more back kept ends
+  served {A} h due node left ReadFailed (Err why) given text more back whole kept ends = broken A h node left ReadFailed why given text more back kept ends
 
   -- a node that ran to its input's end has not failed
   pub ran_on : {A : Type 0} (h : History S D P G C) (node : Node S L D K P G C) (ReadFailed : Type 0) (r : Result A IoFault) (given text more : Option (List ℕ))

@@ -4,7 +4,6 @@ use Rattle.std.specs.Prelude.{Result, Ok, Err, false, true}
 use Rattle.journal_single.specs.Disk.{counted}
 use Rattle.simplex_member.specs.declared.fault.IoFault.{IoFault}
 use Rattle.simplex_member.specs.declared.fault.IoFault.TheVariants as fault
-use Rattle.simplex_member.specs.declared.fault.OpenFault.{OpenFault}
 use Rattle.simplex_cli.specs.declared.ending.Ending.{Ending}
 use Rattle.simplex_cli.specs.declared.ending.Ending.TheVariants as ending
 use Rattle.simplex_cli.specs.Serving.{AreTold, EndsAs, ended_of}

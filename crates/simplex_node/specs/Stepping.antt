@@ -1,5 +1,5 @@
 -- What a step of a node is by its contract.
-use Rattle.std.specs.Prelude.{◌≡◌, ℕ, false, true, Result, IfOk, IsErrOf, OnErr, OnOk}
+use Rattle.std.specs.Prelude.{◌≡◌, ℕ, true, Result, IfOk, IsErrOf, OnErr, OnOk}
 use Rattle.types_core.specs.declared.scheme.Scheme.{Ghosts}
 use Rattle.types_terms.specs.declared.elector.Elector as elector
 use Rattle.journal_single.specs.declared.disk.Disk as disk

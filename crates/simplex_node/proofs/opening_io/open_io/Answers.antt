@@ -10,6 +10,10 @@ use Rattle.simplex_node.proofs.opening_io.open_io.Goals as goal
 pub returns-in-Ok-clause-over_one : goal.returns-in-Ok-clause-over_one
 returns-in-Ok-clause-over_one g c = c.in-Ok.ensures.as_many
 
+-- writing failed only where that is told
+pub returns-in-Ok-clause-write : goal.returns-in-Ok-clause-write
+returns-in-Ok-clause-write g c = c.in-Ok.ensures.write
+
 -- one disk is given back
 pub one-requires : goal.one-requires
 one-requires g c = c.in-Err.ensures.as_many_back
