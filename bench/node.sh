@@ -7,7 +7,7 @@
 
 rustc -O --edition 2021 -o "$folder/baseline" "$here/baseline/node.rs"
 if [ -z "${NODE:-}" ]; then
-    lay_out node node_steps simplex_member voter_rules journal_single types_terms simplex_messages simplex_types types_core
+    lay_out node node_steps simplex_member voter_rules journal_books journal_single types_terms simplex_messages simplex_types types_core
     build finalized 4 1 1 memory
 fi
 python3 -B "$here/measure_node.py" --baseline "$folder/baseline" \
