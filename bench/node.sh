@@ -7,7 +7,9 @@
 # NODE may name the program of node/main.rt.txt, else it is proved and built here, which takes minutes to hours.
 . "$(dirname "$0")/common.sh"
 
-cc -O2 -shared -fPIC -o "$folder/heap.so" "$here/heap.c" -ldl
+case " $* " in
+    *" --rewrites "*) cc -O2 -shared -fPIC -o "$folder/heap.so" "$here/heap.c" -ldl ;;
+esac
 rustc -O --edition 2021 -o "$folder/baseline" "$here/baseline/node.rs"
 if [ -z "${NODE:-}" ]; then
     lay_out node node_steps simplex_member voter_rules journal_books journal_single types_terms simplex_messages simplex_types types_core
