@@ -340,8 +340,14 @@ def told_over_two(found, heaps, every, histories):
     row(f"a view, µs, {way}", cells(lambda it: f"{per_view(found, *it)[0] / 1e3:,.1f} ({per_view(found, *it)[1]:.2f})"))
     row(f"an opening, ms, {way}", cells(lambda it: opening_of(found[it])))
     if every:
+        row("the same with its share of the rewrites, µs", cells(lambda it: f"{shared(found[it]) / 1e3:,.1f}"))
         row("rewrites", cells(lambda it: f"{found[it][0].rewrites:,}"))
         row("a rewrite, ms", cells(lambda it: rewrite_of(found[it])))
+
+
+def shared(runs):
+    """The least nanoseconds of a view with its share of the rewrites."""
+    return min(it.taken + it.rewriting / it.finalized for it in runs)
 
 
 def opening_of(runs):
