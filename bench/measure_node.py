@@ -340,7 +340,7 @@ def told_over_two(found, heaps, every, histories):
     row(f"a view, µs, {way}", cells(lambda it: f"{per_view(found, *it)[0] / 1e3:,.1f} ({per_view(found, *it)[1]:.2f})"))
     row(f"an opening, ms, {way}", cells(lambda it: opening_of(found[it])))
     if every:
-        row("the same with its share of the rewrites, µs", cells(lambda it: f"{shared(found[it]) / 1e3:,.1f}"))
+        row("a view with its share of the rewrites, µs", cells(lambda it: f"{shared(found[it]) / 1e3:,.1f}"))
         row("rewrites", cells(lambda it: f"{found[it][0].rewrites:,}"))
         row("a rewrite, ms", cells(lambda it: rewrite_of(found[it])))
 
