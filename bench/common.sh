@@ -32,13 +32,15 @@ below() {
         }' "$root/crates.txt"
 }
 
-# lay_out NAME LIBRARY..: the program of NAME/main.rt.txt, which names these libraries, beside copies of all that it needs.
+# lay_out NAME LIBRARY..: the program of NAME/*.rt.txt, which names these libraries, beside copies of all that it needs.
 lay_out() {
     name=$1
     shift
     crate=$folder/crates/$name
     mkdir -p "$crate/src"
-    cp "$here/$name/main.rt.txt" "$crate/src/main.rt"
+    for file in "$here/$name"/*.rt.txt; do
+        cp "$file" "$crate/src/$(basename "$file" .txt)"
+    done
     for library in $(below "$@"); do
         cp -pR "$root/crates/$library" "$folder/crates"
         grep "^$library:" "$root/crates.txt" >>"$folder/crates.txt"

@@ -34,6 +34,20 @@ SHAPES = {
 FEW = 12
 COUNTED = {4: 240, 100: 48, 1000: 12}
 DISK_VIEWS = 240
+# How records are rewritten: behind so many final views, and behind how many views it is measured, of which the first is what the others
+# are held against. A run ends 984 views behind its last rewrite, where its heap and its record are about greatest.
+EVERY = 1000
+REWRITTEN_BEHIND = [10**2, 10**3, 10**4, 10**5, 10**6]
+REWRITTEN_CHUNKS = 166
+REWRITTEN_RUNS = 5
+# With how many views behind few runs are made, and how much memory such a run takes where the record is never rewritten.
+MANY = 10**6
+MANY_RUNS = 3
+MANY_NEED = 6 << 30
+WAYS = (EVERY, 0)
+# What is aimed at: the heap behind the most views to that behind so many, a view behind any number to one behind 100, and an opening.
+HEAP_BEHIND = 10**4
+MOST_HEAP, MOST_VIEW, MOST_OPENING_MS = 1.2, 1.1, 50
 NAMES = ("plain Rust", "`node_steps`")
 
 
@@ -44,7 +58,9 @@ def arguments():
     parser.add_argument("--instructions", action="store_true", help="count instructions, which no load moves, in place of times")
     parser.add_argument("--memory", action="store_true", help="the greatest heap behind more and more views, in place of times")
     parser.add_argument("--disk", type=Path, metavar="FOLDER", help="keep the record in a file of this folder")
+    parser.add_argument("--rewrites", action="store_true", help="over two disks, whose record is rewritten behind each 1,000 views, or never")
     parser.add_argument("--baseline", help=argparse.SUPPRESS)
+    parser.add_argument("--heap", help=argparse.SUPPRESS)
     parser.add_argument("--simplex", help=argparse.SUPPRESS)
     return parser.parse_args()
 
@@ -222,12 +238,170 @@ def on_disks(programs, folder, runs):
         on_disk(programs, folder, members, runs)
 
 
+# ---- over two disks, whose record is rewritten
+
+
+class Rewritten(NamedTuple):
+    """What such a run came to: a sum over the actions and how many there were, the current view and the last finalized one, the lengths of
+    both disks; the nanoseconds of one view; how often the record was rewritten, and the nanoseconds of the longest rewrite and of all; those
+    of the shortest of some openings, and of the longest."""
+
+    told: int
+    actions: int
+    current: int
+    finalized: int
+    first: int
+    second: int
+    taken: int
+    rewrites: int
+    stall: int
+    rewriting: int
+    shortest: int
+    longest: int
+
+
+def run_over_two(program, behind, every, disk, **how):
+    """What such a run of four members came to, where it went as it has to."""
+    command = [program, "finalized", "4", str(behind), str(REWRITTEN_CHUNKS), disk, str(every)]
+    done = subprocess.run(command, check=True, capture_output=True, text=True, **how)
+    answer = Rewritten(*map(int, done.stdout.splitlines()[-1].split()))
+    views = behind + CHUNK[4] * REWRITTEN_CHUNKS
+    if (answer.current, answer.finalized, answer.rewrites > 0) != (views + 1, views, every > 0):
+        sys.exit(f"not all views were finalized, or no record was rewritten: {behind} behind, each {every}: {answer}")
+    return answer
+
+
+def heap_over_two(program, library, behind, every):
+    """The bytes on its heap while the node stands there, and the most till then, on disks that keep nothing."""
+    print(f"weighing {behind} views behind, {f'rewritten each {every}' if every else 'never rewritten'}", file=sys.stderr)
+    with tempfile.NamedTemporaryFile() as told:
+        run_over_two(program, behind, every, "nothing", env=os.environ | {"LD_PRELOAD": library, "HEAP": told.name})
+        standing, most = map(int, told.read().split())
+    if not standing:
+        sys.exit("no request for memory was counted: the program has an allocator of its own")
+    return standing, most
+
+
+def has_room():
+    """Whether a run of many views whose record is never rewritten fits into memory."""
+    available = re.search(r"MemAvailable: +(\d+) kB", Path("/proc/meminfo").read_text())
+    return int(available.group(1)) << 10 > MANY_NEED
+
+
+def on_two(place, turn):
+    """The disk's word, and where it is a file no file is there before."""
+    if not place:
+        return "memory"
+    path = place / f"node_bench_{os.getpid()}_{turn}"
+    for file in (path, Path(f"{path}.2")):
+        file.unlink(missing_ok=True)
+    return str(path)
+
+
+def times_over_two(program, cases, runs, place):
+    """All runs of each case, by turns; each hands out the same, whether its record is rewritten or not."""
+    found = {case: [] for case in cases}
+    for turn in range(runs):
+        for behind, every in cases:
+            if behind == MANY and turn >= (MANY_RUNS if every else 1):
+                continue
+            print(f"measuring {behind} views behind, each {every}: run {turn + 1}", file=sys.stderr)
+            disk = on_two(place, turn)
+            answer = run_over_two(program, behind, every, disk)
+            on_two(place, turn)
+            found[behind, every].append(answer)
+            if answer[:4] != found[behind, EVERY][0][:4]:
+                sys.exit(f"disagreement: {behind} behind, each {every}: {answer} and {found[behind, EVERY][0]}")
+    return found
+
+
+def row(title, cells):
+    print(f"| {title} | " + " | ".join(cells) + " |")
+
+
+def per_view(found, behind, every):
+    """The least nanoseconds of a view, and the median of its ratios to one behind the fewest views, never rewritten, of the same turn."""
+    runs, few = found[behind, every], found[REWRITTEN_BEHIND[0], 0]
+    return min(it.taken for it in runs), statistics.median(it.taken / other.taken for it, other in zip(runs, few))
+
+
+def told_over_two(found, heaps, every, histories):
+    """The rows of a way."""
+    way = f"rewritten each {every:,}" if every else "never rewritten"
+    cases = [(behind, every) for behind in histories]
+    is_there = [bool(found.get(it)) for it in cases]
+
+    def cells(of):
+        return [of(it) if there else "" for it, there in zip(cases, is_there)]
+
+    row(f"heap, standing, bytes, {way}", cells(lambda it: f"{heaps[it][0]:,}"))
+    row(f"heap, at most, bytes, {way}", cells(lambda it: f"{heaps[it][1]:,}"))
+    row(f"both disks, bytes, {way}", cells(lambda it: f"{found[it][0].first:,} + {found[it][0].second:,}"))
+    row(f"a view, µs, {way}", cells(lambda it: f"{per_view(found, *it)[0] / 1e3:,.1f} ({per_view(found, *it)[1]:.2f})"))
+    row(f"an opening, ms, {way}", cells(lambda it: opening_of(found[it])))
+    if every:
+        row("a view with its share of the rewrites, µs", cells(lambda it: f"{shared(found[it]) / 1e3:,.1f}"))
+        row("rewrites", cells(lambda it: f"{found[it][0].rewrites:,}"))
+        row("a rewrite, ms", cells(lambda it: rewrite_of(found[it])))
+
+
+def shared(runs):
+    """The least nanoseconds of a view with its share of the rewrites."""
+    return min(it.taken + it.rewriting / it.finalized for it in runs)
+
+
+def opening_of(runs):
+    """The shortest opening, and the longest."""
+    return f"{min(it.shortest for it in runs) / 1e6:,.2f} to {max(it.longest for it in runs) / 1e6:,.2f}"
+
+
+def rewrite_of(runs):
+    """The least mean of a run, and the longest of all."""
+    return f"{min(it.rewriting / it.rewrites for it in runs) / 1e6:,.2f}, at most {max(it.stall for it in runs) / 1e6:,.2f}"
+
+
+def aimed_at(found, heaps, histories):
+    """What came of what is aimed at."""
+    last, (standing, most) = histories[-1], zip(heaps[histories[-1], EVERY], heaps[HEAP_BEHIND, EVERY])
+    for name, (many, few) in (("standing", standing), ("at most", most)):
+        yield f"heap, {name}, behind {last:,} views to that behind {HEAP_BEHIND:,}: {many / few:.3f}", many / few <= MOST_HEAP, MOST_HEAP
+    for behind in histories[1:]:
+        least, median = per_view(found, behind, EVERY)
+        ratio = least / min(it.taken for it in found[histories[0], 0])
+        told = f"a view behind {behind:,} to one behind {histories[0]}: {ratio:.3f} by the least, {median:.3f} the median of the turns"
+        yield told, min(ratio, median) <= MOST_VIEW, MOST_VIEW
+        longest = statistics.median(it.longest for it in found[behind, EVERY]) / 1e6
+        told = f"an opening behind {behind:,}, the median of the runs' longest: {longest:.2f} ms"
+        yield told, longest < MOST_OPENING_MS, MOST_OPENING_MS
+
+
+def rewrites(program, library, histories, runs, place):
+    """Prints what a node costs whose record is rewritten, and beside it one whose record never is."""
+    cases = [(behind, every) for behind in histories for every in WAYS if every or behind < MANY or has_room()]
+    found = times_over_two(program, cases, runs, place)
+    heaps = {it: heap_over_two(program, library, *it) for it in cases}
+    print(f"\nA node of 4 members over two disks{' in files' if place else ' in memory'}, each view finalized; heaps on disks that keep")
+    print("nothing; in brackets the median of the turns' ratios to a view behind the fewest, never rewritten.\n")
+    row("Behind so many views", [f"{behind:,}" for behind in histories])
+    print("|---|" + "---:|" * len(histories))
+    for every in WAYS:
+        told_over_two(found, heaps, every, histories)
+    print()
+    aims = list(aimed_at(found, heaps, histories))
+    for told, is_kept, bound in aims:
+        print(f"{'kept' if is_kept else 'MISSED'} (at most {bound}): {told}")
+    return 0 if all(is_kept for _, is_kept, _ in aims) else 1
+
+
 def main():
     given = arguments()
     programs = [given.baseline, given.simplex]
     runs = given.runs or (QUICK_RUNS if given.quick else RUNS)
     histories = BEHIND[:-1] if given.quick else BEHIND
     load = os.getloadavg()[0]
+    if given.rewrites:
+        behind = REWRITTEN_BEHIND[:-1] if given.quick else REWRITTEN_BEHIND
+        return rewrites(given.simplex, given.heap, behind, given.runs or (2 if given.quick else REWRITTEN_RUNS), given.disk)
     if given.instructions:
         return count(programs)
     if given.memory:
@@ -240,4 +414,4 @@ def main():
 
 
 if __name__ == "__main__":
-    main()
+    sys.exit(main())

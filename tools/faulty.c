@@ -1,5 +1,5 @@
-/* For node-faults: a library to load before a program, in which calls fail. FAULT is one of `memory`, `disk`, `read` and `write`, AT the number
- * of a call of that kind, from 1 on, and MODE `once` where that call alone fails, `from` where every later one does too, `torn` where it
+/* For node-faults and kill-node: a library to load before a program, in which calls fail. FAULT is one of `memory`, `disk`, `read` and `write`,
+ * or `rewrite`, the calls of the disk behind the end of standard input, AT the number of a call of that kind, from 1 on, and MODE `once` where that call alone fails, `from` where every later one does too, `torn` where it
  * fails behind half of what it was to write, `interrupted` where a signal comes before it did anything, `full` where from then on the disk
  * has no more room (a write to the file moves half of its bytes, and the next one none), or `killed` where the process is killed in it,
  * inside a write to the file behind half of its bytes. PIECE is how many bytes a read of standard input and a write to standard output move at most.
@@ -22,6 +22,7 @@
 
 static const char *kind = "", *mode = "";
 static unsigned long made, at;
+static int is_over;
 static size_t piece = (size_t)-1;
 
 static const char *word(const char *name)
@@ -49,9 +50,14 @@ __attribute__((destructor)) static void end(void)
         NEXT(write)(file, line, (size_t)snprintf(line, sizeof line, "%lu", made));
 }
 
+static int is_counted(const char *of)
+{
+    return strcmp(kind, "rewrite") ? !strcmp(kind, of) : is_over && !strcmp(of, "disk");
+}
+
 static int fails(const char *of)
 {
-    if (strcmp(kind, of))
+    if (!is_counted(of))
         return 0;
     made++;
     return made == at || (made > at && at && (!strcmp(mode, "from") || !strcmp(mode, "full")));
@@ -94,9 +100,12 @@ void *realloc(void *old, size_t size)
 
 ssize_t read(int file, void *bytes, size_t size)
 {
-    if (file == 0)
-        return fails("read") ? failed(EIO) : NEXT(read)(file, bytes, at_most(size));
-    return NEXT(read)(file, bytes, size);
+    ssize_t got;
+    if (file)
+        return NEXT(read)(file, bytes, size);
+    got = fails("read") ? failed(EIO) : NEXT(read)(file, bytes, at_most(size));
+    is_over |= !got && size;
+    return got;
 }
 
 ssize_t write(int file, const void *bytes, size_t size)

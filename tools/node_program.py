@@ -21,6 +21,13 @@ USAGE = "usage: simplex audit COUNT | simplex node RECORD INDEX COUNT\n"
 GENERATION, HEAD = b"\2\xff\xff\xff\xff", 9
 
 
+def faulty_in(folder):
+    """The library in which calls fail, built there: tools/faulty.c."""
+    library = Path(folder, "faulty.so")
+    subprocess.run(["cc", "-shared", "-fPIC", "-o", library, TOP / "tools" / "faulty.c", "-ldl"], check=True)
+    return library
+
+
 def setup_of(index, count):
     """How the program's node is set up, as docs/FORMATS.md has it."""
     return Setup(PlainScheme(count), index, 0, 4, 2, 10_000, 10, 1000, 2000, 5000, 8000, None, "disabled", True, True)
