@@ -29,7 +29,7 @@ pub enum Ending {
     Foreign(u64),
     /// The gate at this byte of the record, behind its last whole entry, isn't closed, or more stands behind it than a crash leaves.
     Torn(u64),
-    /// The file isn't empty, and begins as no record does.
+    /// The file isn't empty, and begins as no record does; opened alone, one of two that a rewrite has written does so too.
     NoRecord,
     /// A file of the record failed.
     Device,

@@ -136,16 +136,23 @@ fn a_record_that_is_rewritten_is_shorter_and_goes_on() {
     assert_eq!(alone.node.rewrite().unwrap(), None);
     assert_eq!(stored(&record), [long.clone(), short.clone()]);
 
-    // It goes on in that file, and back to the first.
+    // It goes on in that file, from its last gate on, and back to the first.
     alone.reach(60);
     let [first, second] = stored(&record);
     assert_eq!(first, long);
-    assert!(second.starts_with(&short) && second.len() > short.len());
+    assert!(second.len() > short.len() && second.starts_with(&short[..short.len() - 1]));
     let last = alone.node.views().finalized;
     assert_eq!(alone.node.rewrite().unwrap(), Some(last));
     assert!(stored(&record)[0].len() < long.len() / 4);
     assert_eq!(stored(&record)[1], second);
     assert_eq!(alone.node.close(), Ending::Closed);
+    // By now neither is a record by itself.
+    let found = stored(&record);
+    for one in [&record, &second_path(&record)] {
+        let error = Node::open(one, 0, 1).unwrap_err();
+        assert_eq!(error.to_string(), format!("{:?}", Ending::NoRecord));
+    }
+    assert_eq!(stored(&record), found);
 }
 
 #[test]
