@@ -862,6 +862,9 @@ fn a_rewrite_that_fails_ends_the_member_as_a_step_does() {
             reply(Vec::new())
         };
         let member = Running::behind(0, record, folder.path(), LONG, network, say);
+        until("the member ends", || {
+            member.thread.is_finished().then_some(())
+        });
         let told = format!("{:#}", member.thread.join().unwrap().unwrap_err());
         assert!(told.contains("the disk is full"), "{told}");
         assert_eq!(member.metrics.rewrites.get(), 0);
