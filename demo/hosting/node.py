@@ -13,8 +13,8 @@ from member.values import Reply
 from node_program import setup_of
 
 T = TypeVar("T")
-# Behind the end of its input a node ends at once; one that doesn't is killed.
-PATIENCE = 2.0
+# Behind the end of its input a node rewrites its record and ends; one that doesn't is killed.
+PATIENCE = 10.0
 REFUSALS = range(17)
 
 
@@ -77,13 +77,13 @@ class Node:
             self.child.kill()
 
     async def close(self) -> None:
-        """Ends its input, at which it ends, and leaves none behind."""
+        """Ends its input, at which it ends, and leaves none behind. What it still says is dropped: else it might wait for a reader."""
         self.child.stdin.close()
         with contextlib.suppress(OSError):
             await self.child.stdin.wait_closed()
         try:
             async with asyncio.timeout(PATIENCE):
-                await self.child.wait()
+                await self.child.communicate()
         except TimeoutError:
             self.kill()
             await self.child.wait()

@@ -26,6 +26,21 @@ unsafe extern "C" {
         node: *mut Handle,
         found: *mut Found,
     ) -> u32;
+    fn voumlis_proved_node_open_pair_with(
+        numbers: *const Numbers,
+        base: *const u8,
+        base_length: usize,
+        seed: *const u8,
+        seed_length: usize,
+        cuts: u32,
+        record: *const u8,
+        length: usize,
+        second: *const u8,
+        second_length: usize,
+        node: *mut Handle,
+        found: *mut Found,
+    ) -> u32;
+    fn voumlis_proved_node_rewrite(node: *mut Handle, found: *mut Found) -> u32;
     fn voumlis_proved_node_step(
         node: *mut Handle,
         events: *const u8,
@@ -85,6 +100,40 @@ impl Handle {
                 found,
             )
         }
+    }
+
+    /// The same over what two files hold.
+    pub(crate) fn open_pair(
+        &mut self,
+        settings: &Settings,
+        cuts: bool,
+        record: &[u8],
+        second: &[u8],
+        found: &mut Found,
+    ) -> u32 {
+        let (numbers, base, seed) = settings.parts();
+        // SAFETY: as above.
+        unsafe {
+            voumlis_proved_node_open_pair_with(
+                &numbers,
+                base.as_ptr(),
+                base.len(),
+                seed.as_ptr(),
+                seed.len(),
+                u32::from(cuts),
+                record.as_ptr(),
+                record.len(),
+                second.as_ptr(),
+                second.len(),
+                self,
+                found,
+            )
+        }
+    }
+
+    pub(crate) fn rewrite(&mut self, found: &mut Found) -> u32 {
+        // SAFETY: a handle that is as the library left it, and a `Found` of the caller's frame.
+        unsafe { voumlis_proved_node_rewrite(self, found) }
     }
 
     pub(crate) fn step(&mut self, events: &[u8], found: &mut Found) -> u32 {

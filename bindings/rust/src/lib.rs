@@ -5,14 +5,17 @@
 //! the declarations of foreign functions here, which nothing compares with the library's, and the heap of the module `heap`.
 
 mod attesting;
+mod files;
 mod handle;
 mod heap;
 mod light;
 mod node;
+mod requests;
 mod settings;
 pub mod wire;
 
 pub use attesting::{Attestation, attestations};
+pub use files::second_path;
 use handle::Handle;
 pub use light::{Broken, Certified, Uncertified, certifies, finalized_in};
 pub use node::{Ending, Node, Views};

@@ -1,12 +1,11 @@
-//! A member's node over a record in a file.
+//! A member's node over a record in a file, or in two.
 
+use crate::files::Files;
 use crate::handle::MOST_KEPT;
 use crate::settings::{Settings, SettingsError};
 use crate::wire::{Event, LentReply, Reply};
 use crate::{Found, Handle};
-use std::fs::{File, TryLockError};
-use std::io::{Error, ErrorKind, Read};
-use std::os::unix::fs::FileExt;
+use std::io::{Error, ErrorKind};
 use std::path::Path;
 
 /// How a node ended.
@@ -30,9 +29,9 @@ pub enum Ending {
     Foreign(u64),
     /// The gate at this byte of the record, behind its last whole entry, isn't closed, or more stands behind it than a crash leaves.
     Torn(u64),
-    /// The file isn't empty, and begins as no record does.
+    /// The file isn't empty, and begins as no record does; opened alone, one of two that a rewrite has written does so too.
     NoRecord,
-    /// The record's file failed.
+    /// A file of the record failed.
     Device,
 }
 
@@ -46,12 +45,15 @@ pub struct Views {
     pub finalized: u64,
 }
 
-/// A member's node over a record in a file, which stays on the thread that opened it. One that is let go is told nothing more: its
-/// record has all that it handed out.
+/// A member's node over a record in a file, or in two, which stays on the thread that opened it. One that is let go is told nothing more:
+/// its record has all that it handed out.
+///
+/// In one file a record grows by each vote and certificate. In two it can be rewritten ([`Node::rewrite`]). These belong together for good:
+/// opened from one of them alone, a member may forget votes.
 #[derive(Debug)]
 pub struct Node {
     handle: Handle,
-    file: File,
+    files: Files,
     ending: Option<Ending>,
     room: Room,
 }
@@ -78,57 +80,6 @@ fn ending(status: u32, found: &Found) -> Ending {
         13 | 14 => Ending::Settings(SettingsError::told(status, found)),
         _ => Ending::Argument,
     }
-}
-
-/// The file at this path, which is made where there is none, locked against every other node, and there after a crash.
-fn opened(record: &Path) -> Result<File, Error> {
-    let file = File::options()
-        .read(true)
-        .write(true)
-        .create(true)
-        .truncate(false)
-        .open(record)?;
-    file.try_lock().map_err(|error| match error {
-        TryLockError::Error(error) => error,
-        TryLockError::WouldBlock => ErrorKind::WouldBlock.into(),
-    })?;
-    let folder = match record.parent() {
-        Some(folder) if !folder.as_os_str().is_empty() => folder,
-        _ => Path::new("."),
-    };
-    File::open(folder)?.sync_all()?;
-    Ok(file)
-}
-
-/// The number in eight bytes at the front.
-fn number(bytes: &mut &[u8]) -> Option<u64> {
-    let (front, rest) = bytes.split_first_chunk()?;
-    *bytes = rest;
-    Some(u64::from_be_bytes(*front))
-}
-
-/// Does with the record what was asked, in this order.
-fn carry_out(file: &File, mut requests: &[u8]) -> Result<(), Error> {
-    while let Some((kind, rest)) = requests.split_first() {
-        requests = rest;
-        let unknown = || Error::from(ErrorKind::InvalidData);
-        match kind {
-            0 => {
-                let place = number(&mut requests).ok_or_else(unknown)?;
-                let size = number(&mut requests).ok_or_else(unknown)?;
-                let (bytes, rest) = usize::try_from(size)
-                    .ok()
-                    .and_then(|size| requests.split_at_checked(size))
-                    .ok_or_else(unknown)?;
-                file.write_all_at(bytes, place)?;
-                requests = rest;
-            }
-            1 => file.set_len(number(&mut requests).ok_or_else(unknown)?)?,
-            2 => file.sync_all()?,
-            _ => return Err(unknown()),
-        }
-    }
-    Ok(())
 }
 
 impl Node {
@@ -161,7 +112,7 @@ impl Node {
     /// touched; those of the file, of which [`ErrorKind::WouldBlock`] says that another node has it; and one that holds the
     /// [`Ending`] as text, where the record was not opened.
     pub fn open_with(record: &Path, settings: &Settings) -> Result<(Node, Reply), Error> {
-        Node::open_over(record, settings, false)
+        Node::open_over(record, Files::one, settings, false)
     }
 
     /// The same, as [`Node::open_cutting`] cuts.
@@ -170,24 +121,81 @@ impl Node {
     ///
     /// As of [`Node::open_with`].
     pub fn open_cutting_with(record: &Path, settings: &Settings) -> Result<(Node, Reply), Error> {
-        Node::open_over(record, settings, true)
+        Node::open_over(record, Files::one, settings, true)
     }
 
-    fn open_over(record: &Path, settings: &Settings, cuts: bool) -> Result<(Node, Reply), Error> {
+    /// Opens the record in the file at this path and in the second beside it ([`second_path`](crate::second_path)), as the program
+    /// `simplex node` has it, else as [`Node::open`] does. What is missing is made; one that was a record of one file is one of two from
+    /// then on.
+    ///
+    /// # Errors
+    ///
+    /// As of [`Node::open_pair_with`].
+    pub fn open_pair(record: &Path, member: u16, members: u16) -> Result<(Node, Reply), Error> {
+        Node::open_pair_with(record, &Settings::new(member.into(), members.into()))
+    }
+
+    /// The same, as [`Node::open_cutting`] cuts.
+    ///
+    /// # Errors
+    ///
+    /// As of [`Node::open_pair_with`].
+    pub fn open_pair_cutting(
+        record: &Path,
+        member: u16,
+        members: u16,
+    ) -> Result<(Node, Reply), Error> {
+        Node::open_pair_cutting_with(record, &Settings::new(member.into(), members.into()))
+    }
+
+    /// Opens the record in two files, as [`Node::open_pair`], as the member of these settings. Both are looked at first: where one is no
+    /// file of a record of this member as a crash may leave it, both are left as they are, and no second one is made.
+    ///
+    /// # Errors
+    ///
+    /// As of [`Node::open_with`], of either file: the [`Ending`] doesn't say of which, and the place in it is one in that file.
+    pub fn open_pair_with(record: &Path, settings: &Settings) -> Result<(Node, Reply), Error> {
+        Node::open_over(record, Files::two, settings, false)
+    }
+
+    /// The same, as [`Node::open_cutting`] cuts.
+    ///
+    /// # Errors
+    ///
+    /// As of [`Node::open_pair_with`].
+    pub fn open_pair_cutting_with(
+        record: &Path,
+        settings: &Settings,
+    ) -> Result<(Node, Reply), Error> {
+        Node::open_over(record, Files::two, settings, true)
+    }
+
+    fn open_over(
+        record: &Path,
+        find: fn(&Path) -> Result<Files, Error>,
+        settings: &Settings,
+        cuts: bool,
+    ) -> Result<(Node, Reply), Error> {
         settings
             .check()
             .map_err(|why| Error::new(ErrorKind::InvalidInput, why))?;
-        let mut file = opened(record)?;
-        let mut stored = Vec::new();
-        file.read_to_end(&mut stored)?;
+        let files = find(record)?;
+        let (stored, beside) = files.stored()?;
         let mut node = Node {
             handle: Handle::NONE,
-            file,
+            files,
             ending: None,
             room: Room::default(),
         };
         let mut found = Found::default();
-        let status = node.handle.open(settings, cuts, &stored, &mut found);
+        let handle = &mut node.handle;
+        let status = match beside {
+            None => handle.open(settings, cuts, &stored, &mut found),
+            Some(second) => handle.open_pair(settings, cuts, &stored, &second, &mut found),
+        };
+        if status == 0 {
+            node.files.complete()?;
+        }
         let reply = node.answered(status, &found).and_then(one);
         match reply {
             Ok(reply) => Ok((node, reply)),
@@ -244,6 +252,21 @@ impl Node {
         self.answered(status, &found)
     }
 
+    /// Rewrites a record in two files, so that it begins with the finalization of the last final view, and answers that view. What doesn't
+    /// reach above it is dropped; nothing else of the node changes, and nothing is handed out. `None` where there is nothing to rewrite:
+    /// it begins so already, no view is final yet, or it stands in one file. By the answer the files have it.
+    ///
+    /// # Errors
+    ///
+    /// As of [`Node::step`]: the record is the one from before or the rewritten one, and either has all that was handed out.
+    pub fn rewrite(&mut self) -> Result<Option<u64>, Error> {
+        self.going_on()?;
+        let mut found = Found::default();
+        let status = self.handle.rewrite(&mut found);
+        self.carried_out(status, &found)?;
+        Ok(found.named())
+    }
+
     /// Fails where the node has ended.
     fn going_on(&self) -> Result<(), Error> {
         match self.ending {
@@ -259,15 +282,22 @@ impl Node {
 
     /// Carries out what a call asked, and then answers the replies.
     fn answered(&mut self, status: u32, found: &Found) -> Result<&[u8], Error> {
+        self.carried_out(status, found)?;
+        Ok(self.handle.replies(&mut self.room.replies))
+    }
+
+    /// Carries out what a call asked, or ends the node where it failed.
+    fn carried_out(&mut self, status: u32, found: &Found) -> Result<(), Error> {
         if status != 0 {
             self.ending = Some(ending(status, found));
             return Err(ErrorKind::BrokenPipe.into());
         }
-        if let Err(error) = carry_out(&self.file, self.handle.requests(&mut self.room.requests)) {
+        let requests = self.handle.requests(&mut self.room.requests);
+        let done = self.files.carry_out(requests);
+        if done.is_err() {
             self.ending = Some(Ending::Device);
-            return Err(error);
         }
-        Ok(self.handle.replies(&mut self.room.replies))
+        done
     }
 }
 

@@ -8,8 +8,9 @@ use crate::chain::{ChainHandle, Request};
 use crate::early::Early;
 use crate::envelope::{Opened, Sealer};
 use crate::frame::Frame;
+use crate::growth::{Growth, REWRITTEN_FROM};
 use crate::inbox::{Inbox, Input};
-use crate::member::{Member, NotYet, Open};
+use crate::member::{Member, NotYet, Open, Rewriting};
 use crate::metrics::{Metrics, Status};
 use crate::network::{Current, Letter, Network};
 use crate::pace::{Clock, Pace, PaceSettings};
@@ -51,6 +52,8 @@ pub struct EngineSettings {
     pub reopen_at_most: Duration,
     /// How slow the time may be told.
     pub pace: PaceSettings,
+    /// The record is rewritten where it has doubled, and has so many bytes at least.
+    pub rewritten_from: u64,
 }
 
 impl Default for EngineSettings {
@@ -59,6 +62,7 @@ impl Default for EngineSettings {
             reopen_after: Duration::from_secs(30),
             reopen_at_most: Duration::from_secs(600),
             pace: PaceSettings::default(),
+            rewritten_from: REWRITTEN_FROM,
         }
     }
 }
@@ -100,6 +104,8 @@ enum Ended {
     Stopped,
     /// No view was entered for long.
     Stuck,
+    /// The record has doubled, and its node rewrites it where it is let go.
+    Grown,
 }
 
 /// One node, from its opening on.
@@ -114,6 +120,7 @@ struct Life {
     /// The moment that was told last.
     told: u64,
     pruned: u64,
+    growth: Growth,
     /// The certificates that the node reported: it would refuse each of them as a repetition.
     recorded: HashSet<(VoteKind, On)>,
     /// The view that the node stands at, by what it reported.
@@ -164,40 +171,58 @@ impl Engine {
     pub fn run(mut self) -> Result<()> {
         let mut patience = self.settings.reopen_after;
         let mut pace = Pace::new(&self.settings.pace, self.sealer.committee.liars());
+        let mut early = Early::default();
         for number in 1.. {
             let entered = self.status.get().view;
-            let Some(mut life) = self.begin(number, pace)? else {
+            let Some(mut life) = self.begin(number, pace, early)? else {
                 return Ok(());
             };
-            match self.live(&mut life, patience)? {
+            let ended = self.live(&mut life, patience)?;
+            let waited = life.patience(patience, &self.settings);
+            // What a network takes it goes on taking: the pace isn't the node's. Nor is what the next one may listen to.
+            (pace, early) = (life.pace, life.early);
+            let helped = self.status.get().view > entered;
+            if helped {
+                patience = self.settings.reopen_after;
+            }
+            match ended {
                 Ended::Stopped => {
                     self.signatures.sync()?;
                     return life.node.close();
                 }
+                Ended::Grown => {
+                    // A rewrite that fails is a step that fails.
+                    life.node.close()?;
+                    self.tell_rewritten(self.status.get().finalized.view);
+                }
                 Ended::Stuck => {
-                    let waited = life.patience(patience, &self.settings);
-                    // The record has all that it handed out, however it ended.
-                    if let Err(told) = life.node.close() {
-                        warn!(told = %format!("{told:#}"), "the node didn't end well");
+                    self.let_go(life.node, waited);
+                    if !helped {
+                        patience = (patience * 2).min(self.settings.reopen_at_most);
                     }
-                    let helped = self.status.get().view > entered;
-                    patience = if helped {
-                        self.settings.reopen_after
-                    } else {
-                        (patience * 2).min(self.settings.reopen_at_most)
-                    };
-                    // What a network takes it goes on taking: the pace isn't the node's.
-                    pace = life.pace;
-                    self.metrics.stuck.inc();
-                    info!(
-                        life = number,
-                        ?waited,
-                        "no view was entered for long: the record is opened again"
-                    );
                 }
             }
         }
         Ok(())
+    }
+
+    /// Ends a node that is stuck. The record has all that it handed out, however it ends.
+    fn let_go(&self, node: Box<dyn Member>, waited: Duration) {
+        if let Err(told) = node.close() {
+            warn!(told = %format!("{told:#}"), "the node didn't end well");
+        }
+        self.metrics.stuck.inc();
+        info!(
+            life = self.status.get().life,
+            ?waited,
+            "no view was entered for long: the record is opened again"
+        );
+    }
+
+    fn tell_rewritten(&self, view: u64) {
+        self.metrics.rewrites.inc();
+        self.metrics.rewritten.set(view as i64);
+        info!(view, "the record had doubled, and was rewritten");
     }
 
     /// Opens the record, again and again while that may help. `None` where this is to stop.
@@ -219,7 +244,7 @@ impl Engine {
     }
 
     /// A new life, or `None` where this is to stop before there is one.
-    fn begin(&mut self, number: u64, pace: Pace) -> Result<Option<Life>> {
+    fn begin(&mut self, number: u64, pace: Pace, early: Early) -> Result<Option<Life>> {
         let Some((node, first)) = self.open_record()? else {
             return Ok(None);
         };
@@ -229,6 +254,7 @@ impl Engine {
             state.entered = Instant::now();
         });
         self.chain.ask(Request::Opened(number))?;
+        let bytes = self.record_bytes(&*node)?;
         let mut life = Life {
             number,
             node,
@@ -238,9 +264,10 @@ impl Engine {
             wake: None,
             told: 0,
             pruned: 0,
+            growth: Growth::new(bytes, self.settings.rewritten_from),
             recorded: HashSet::new(),
             entered: 0,
-            early: Early::default(),
+            early,
         };
         let recorded = recorded::packets(&first.actions, self.sealer.me);
         // With certificates others' signatures leave.
@@ -257,6 +284,9 @@ impl Engine {
 
     fn live(&mut self, life: &mut Life, patience: Duration) -> Result<Ended> {
         loop {
+            if self.has_grown(life)? {
+                return Ok(Ended::Grown);
+            }
             let early = life.early.due(life.entered, LISTENS_AHEAD);
             if !early.is_empty() {
                 self.step_all(life, early)?;
@@ -272,6 +302,33 @@ impl Engine {
                 return Ok(Ended::Stuck);
             }
             self.step_all(life, batch)?;
+        }
+    }
+
+    /// The bytes of the record's files, counted too.
+    fn record_bytes(&self, node: &dyn Member) -> Result<[u64; 2]> {
+        let bytes = node.record_bytes().context("the record's files")?;
+        for (name, bytes) in ["record", "record.2"].into_iter().zip(bytes) {
+            let size = self.metrics.file_bytes.with_label_values(&[name]);
+            size.set(bytes as i64);
+        }
+        Ok(bytes)
+    }
+
+    /// Has a record rewritten that has doubled. Whether its node does that where it is let go.
+    fn has_grown(&self, life: &mut Life) -> Result<bool> {
+        if !life.growth.is_due(self.record_bytes(&*life.node)?) {
+            return Ok(false);
+        }
+        match life.node.rewrite().context("the record isn't rewritten")? {
+            Rewriting::AtItsEnd => Ok(true),
+            Rewriting::Done(view) => {
+                life.growth.begin(self.record_bytes(&*life.node)?);
+                if let Some(view) = view {
+                    self.tell_rewritten(view);
+                }
+                Ok(false)
+            }
         }
     }
 

@@ -10,7 +10,7 @@
 //! | [`committee`] | the members' keys |
 //! | [`envelope`], [`signatures`] | the signatures beside plain packets, and their store |
 //! | [`member`] | the node: a child process, or the library in this process |
-//! | [`inbox`], [`early`], [`recorded`], [`pace`], [`engine`] | the loop |
+//! | [`inbox`], [`early`], [`recorded`], [`pace`], [`growth`], [`engine`] | the loop |
 //! | [`chain`], [`blocks`], [`snapshots`] | the application's side |
 //! | [`frame`], [`network`], [`allowance`] | what goes between hosts |
 //! | [`reports`], [`judge`] | who lied |
@@ -25,6 +25,7 @@ pub mod engine;
 pub mod envelope;
 mod files;
 pub mod frame;
+pub mod growth;
 pub mod inbox;
 pub mod judge;
 pub mod member;

@@ -1,8 +1,11 @@
-//! A member's node: what takes events and answers actions, over a record on a disk.
+//! A member's node: what takes events and answers actions, over a record on a disk, in two files that belong together for good.
 
 use crate::wire::{Event, Reply};
 use anyhow::Result;
 use std::fmt;
+use std::fs;
+use std::io::{Error, ErrorKind};
+use std::path::{Path, PathBuf};
 
 mod child;
 #[cfg(feature = "library")]
@@ -21,12 +24,56 @@ pub trait Member {
     /// One behind which the node has ended: its record can be opened again.
     fn step(&mut self, event: &Event) -> Result<Reply>;
 
+    /// How many bytes the record's files have, between two events.
+    ///
+    /// # Errors
+    ///
+    /// Where the system doesn't tell.
+    fn record_bytes(&self) -> Result<[u64; 2]>;
+
+    /// Between two events has the record begin with the last finalization, so that what doesn't reach above it is dropped.
+    ///
+    /// # Errors
+    ///
+    /// As of a step.
+    fn rewrite(&mut self) -> Result<Rewriting>;
+
     /// Lets the node go between two events.
     ///
     /// # Errors
     ///
     /// Where it ended otherwise.
     fn close(self: Box<Self>) -> Result<()>;
+}
+
+/// What a node did that was to rewrite its record.
+#[derive(Clone, Copy, Debug, PartialEq, Eq)]
+pub enum Rewriting {
+    /// It did: the record begins with the finalization of this view. `None` where there was nothing to drop.
+    Done(Option<u64>),
+    /// Nothing yet: it rewrites its record where it is let go, and that is then to be opened again.
+    AtItsEnd,
+}
+
+/// The path of a record's second file.
+pub fn second_path(record: &Path) -> PathBuf {
+    let mut path = record.as_os_str().to_owned();
+    path.push(".2");
+    path.into()
+}
+
+/// How many bytes the files of the record at this path have; none where one isn't there.
+///
+/// # Errors
+///
+/// Where the system doesn't tell.
+pub fn record_bytes(record: &Path) -> Result<[u64; 2], Error> {
+    let length = |path: &Path| match fs::metadata(path) {
+        Ok(found) => Ok(found.len()),
+        Err(error) if error.kind() == ErrorKind::NotFound => Ok(0),
+        Err(error) => Err(error),
+    };
+    Ok([length(record)?, length(&second_path(record))?])
 }
 
 /// Why a record isn't opened now, where it may be later: another process has it, and may be ending, or memory ran out.

@@ -47,6 +47,10 @@ pub struct Metrics {
     pub openings: IntCounter,
     /// Lives that ended since no view was entered for long.
     pub stuck: IntCounter,
+    /// How often the record was rewritten since it had doubled.
+    pub rewrites: IntCounter,
+    /// The last final view when that was done last: where it was rewritten, the record begins with that finalization.
+    pub rewritten: IntGauge,
     /// So many times slower than the clock the node is told the time.
     pub slowness: IntGauge,
     /// How often the time was told slower and faster, by direction.
@@ -118,6 +122,8 @@ impl Metrics {
             peers: gauges("peers", "connected peers", "direction")?,
             openings: counter("openings", "openings of the record")?,
             stuck: counter("stuck", "lives ended since no view was entered for long")?,
+            rewrites: counter("rewrites", "rewrites of the record")?,
+            rewritten: gauge("rewritten_view", "last final view at the last rewrite")?,
             slowness,
             paces: counters("paces", "changes of how slow the time is told", "direction")?,
             step_seconds: histogram("step_seconds", "time the node takes for an event")?,

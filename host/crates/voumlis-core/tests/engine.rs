@@ -14,7 +14,7 @@ use voumlis_core::engine::{Engine, EngineSettings};
 use voumlis_core::envelope::{Opened, Sealer};
 use voumlis_core::frame::Frame;
 use voumlis_core::inbox::Inbox;
-use voumlis_core::member::{Member, NotYet, Open};
+use voumlis_core::member::{Member, NotYet, Open, Rewriting};
 use voumlis_core::metrics::{Metrics, Status};
 use voumlis_core::network::Current;
 use voumlis_core::pace::PaceSettings;
@@ -31,11 +31,33 @@ type Events = Arc<Mutex<Vec<(u64, Event)>>>;
 /// What a node says to an event.
 type Say = Arc<dyn Fn(u64, &Event) -> Reply + Send + Sync>;
 
+/// A record that is as long as the test says, and 10 bytes long behind a rewrite.
+#[derive(Default)]
+struct Record {
+    bytes: [u64; 2],
+    /// Whether its nodes rewrite it where they are let go, as the program does, and whether that fails.
+    is_at_end: bool,
+    fails: bool,
+    /// How many packets and answers its nodes had been told at each rewrite.
+    rewrites: Vec<usize>,
+}
+
 /// A node that says what the test has it say.
 struct Scripted {
     life: u64,
     events: Events,
     say: Say,
+    record: Arc<Mutex<Record>>,
+}
+
+impl Scripted {
+    fn shorten(&self) -> anyhow::Result<()> {
+        let mut record = self.record.lock().unwrap();
+        anyhow::ensure!(!record.fails, "the disk is full");
+        record.rewrites.push(told(&self.events).len());
+        record.bytes[1] = 10;
+        Ok(())
+    }
 }
 
 impl Member for Scripted {
@@ -44,9 +66,30 @@ impl Member for Scripted {
         Ok((self.say)(self.life, event))
     }
 
-    fn close(self: Box<Self>) -> anyhow::Result<()> {
-        Ok(())
+    fn record_bytes(&self) -> anyhow::Result<[u64; 2]> {
+        Ok(self.record.lock().unwrap().bytes)
     }
+
+    fn rewrite(&mut self) -> anyhow::Result<Rewriting> {
+        if self.record.lock().unwrap().is_at_end {
+            return Ok(Rewriting::AtItsEnd);
+        }
+        self.shorten()?;
+        Ok(Rewriting::Done(Some(7)))
+    }
+
+    fn close(self: Box<Self>) -> anyhow::Result<()> {
+        let is_at_end = self.record.lock().unwrap().is_at_end;
+        if is_at_end { self.shorten() } else { Ok(()) }
+    }
+}
+
+/// The packets and answers that nodes were told.
+fn told(events: &Events) -> Vec<(u64, Event)> {
+    let events = events.lock().unwrap();
+    let all = events.iter();
+    let told = all.filter(|(_, event)| !matches!(event, Event::Moment(_)));
+    told.cloned().collect()
 }
 
 /// The loop of member 0 of four.
@@ -57,7 +100,8 @@ struct Running {
     events: Events,
     requests: Receiver<Request>,
     metrics: Arc<Metrics>,
-    thread: JoinHandle<()>,
+    record: Arc<Mutex<Record>>,
+    thread: JoinHandle<anyhow::Result<()>>,
 }
 
 fn reply(actions: Vec<Action>) -> Reply {
@@ -72,12 +116,13 @@ impl Running {
         network: Remembered,
         say: impl Fn(u64, &Event) -> Reply + Send + Sync + 'static,
     ) -> Running {
-        Running::behind(0, folder, reopen_after, network, say)
+        Running::behind(0, Arc::default(), folder, reopen_after, network, say)
     }
 
-    /// The same, with a record that another has for so many tries.
+    /// The same, over this record, which another has for so many tries.
     fn behind(
         held: u32,
+        record: Arc<Mutex<Record>>,
         folder: &Path,
         reopen_after: Duration,
         network: Remembered,
@@ -92,7 +137,7 @@ impl Running {
         let events = Events::default();
         let engine = Engine {
             sealer: sealer.clone(),
-            open: opening(events.clone(), Arc::new(say), held),
+            open: opening(events.clone(), Arc::new(say), record.clone(), held),
             inbox: inbox.clone(),
             chain,
             network: network.clone(),
@@ -104,10 +149,11 @@ impl Running {
             settings: EngineSettings {
                 reopen_after,
                 pace: PACE,
+                rewritten_from: 100,
                 ..EngineSettings::default()
             },
         };
-        let thread = thread::spawn(move || engine.run().unwrap());
+        let thread = thread::spawn(move || engine.run());
         Running {
             sealer,
             inbox,
@@ -115,6 +161,7 @@ impl Running {
             events,
             requests,
             metrics,
+            record,
             thread,
         }
     }
@@ -127,22 +174,26 @@ impl Running {
     /// Waits until the nodes were told so many packets and answers, and gives them.
     fn told(&self, count: usize) -> Vec<(u64, Event)> {
         until("the node is told", || {
-            let events = self.events.lock().unwrap();
-            let all = events.iter();
-            let told = all.filter(|(_, event)| !matches!(event, Event::Moment(_)));
-            let told: Vec<_> = told.cloned().collect();
+            let told = told(&self.events);
             (told.len() >= count).then_some(told)
         })
     }
 
     fn stop(self) {
         self.inbox.stop();
-        self.thread.join().unwrap();
+        self.thread.join().unwrap().unwrap();
+    }
+
+    /// Waits until the record was opened so often: what a test then says of this life comes to it.
+    fn is_opened(&self, count: u64) {
+        until("the record is opened", || {
+            (self.metrics.openings.get() >= count).then_some(())
+        });
     }
 }
 
 /// How a record is opened that another has at first, for so many tries.
-fn opening(events: Events, say: Say, mut held: u32) -> Box<Open> {
+fn opening(events: Events, say: Say, record: Arc<Mutex<Record>>, mut held: u32) -> Box<Open> {
     let mut life = 0;
     Box::new(move || {
         if held > 0 {
@@ -154,6 +205,7 @@ fn opening(events: Events, say: Say, mut held: u32) -> Box<Open> {
             life,
             events: events.clone(),
             say: say.clone(),
+            record: record.clone(),
         };
         // As a node does behind a restart, it tells anew what its record says.
         let mut actions = vec![Action::Wake(50)];
@@ -687,7 +739,10 @@ fn a_record_that_another_has_is_tried_until_it_is_free_or_the_host_stops() {
     let folder = tempfile::tempdir().unwrap();
     let network = Remembered::default();
     // Three waits, of which each is twice as long as the one before.
-    let member = Running::behind(3, folder.path(), LONG, network, |_, _| reply(Vec::new()));
+    let record = Arc::default();
+    let member = Running::behind(3, record, folder.path(), LONG, network, |_, _| {
+        reply(Vec::new())
+    });
     match member.requests.recv_timeout(patience()) {
         Ok(Request::Opened(1)) => {}
         other => panic!("{other:?}"),
@@ -696,7 +751,8 @@ fn a_record_that_another_has_is_tried_until_it_is_free_or_the_host_stops() {
 
     let folder = tempfile::tempdir().unwrap();
     let network = Remembered::default();
-    let member = Running::behind(u32::MAX, folder.path(), LONG, network, |_, _| {
+    let record = Arc::default();
+    let member = Running::behind(u32::MAX, record, folder.path(), LONG, network, |_, _| {
         reply(Vec::new())
     });
     assert!(
@@ -706,4 +762,111 @@ fn a_record_that_another_has_is_tried_until_it_is_free_or_the_host_stops() {
             .is_err()
     );
     member.stop();
+}
+
+#[test]
+fn a_record_that_has_doubled_is_rewritten_between_two_batches() {
+    let folder = tempfile::tempdir().unwrap();
+    let record: Arc<Mutex<Record>> = Arc::default();
+    let (go_on, held) = std::sync::mpsc::channel::<()>();
+    let (held, grown) = (Mutex::new(held), record.clone());
+    let network = Remembered::default();
+    let say = move |_, event: &Event| {
+        match event {
+            // All that comes before the test goes on is a batch.
+            Event::Moment(_) => drop(held.lock().unwrap().recv()),
+            Event::Packet { .. } => grown.lock().unwrap().bytes[0] += 50,
+            _ => grown.lock().unwrap().bytes[1] += 50,
+        }
+        reply(Vec::new())
+    };
+    let member = Running::behind(0, record, folder.path(), LONG, network, say);
+    until("it is woken", || member.events.lock().unwrap().pop());
+    for signer in 1..4 {
+        let vote = nullify(1, signer);
+        member.packet(signer, vote.bytes(), vec![signature(&vote)]);
+    }
+    drop(go_on);
+    // With the second the record is long enough: it is rewritten behind the third.
+    until("it is rewritten", || {
+        (member.metrics.rewritten.get() == 7).then_some(())
+    });
+    assert_eq!(member.record.lock().unwrap().rewrites, [3]);
+    let bytes = |file| member.metrics.file_bytes.with_label_values(&[file]).get();
+    assert_eq!((bytes("record"), bytes("record.2")), (150, 10));
+    // The other file is read now, which is long enough behind two more.
+    let verdict = |view| Event::Verdict { view, good: true };
+    for view in 1..4 {
+        member.inbox.answer(1, verdict(view));
+        member.told(3 + view as usize);
+    }
+    assert_eq!(member.record.lock().unwrap().rewrites, [3, 5]);
+    assert_eq!(
+        (member.metrics.rewrites.get(), member.metrics.openings.get()),
+        (2, 1)
+    );
+    member.stop();
+}
+
+#[test]
+fn a_record_whose_node_rewrites_it_at_its_end_is_opened_again_and_what_came_early_stays() {
+    let folder = tempfile::tempdir().unwrap();
+    let record: Arc<Mutex<Record>> = Arc::default();
+    record.lock().unwrap().is_at_end = true;
+    let (grown, network) = (record.clone(), Remembered::default());
+    let say = move |life, event: &Event| match event {
+        Event::Packet { .. } if life == 1 => Reply {
+            refused: 6,
+            actions: Vec::new(),
+        },
+        Event::Verdict { view, .. } => {
+            grown.lock().unwrap().bytes[0] = 20 * view;
+            reply(vec![Action::Finalized(proposal(*view))])
+        }
+        _ => reply(Vec::new()),
+    };
+    let member = Running::behind(0, record, folder.path(), LONG, network, say);
+    let vote = nullify(12, 1);
+    member.packet(1, vote.bytes(), vec![signature(&vote)]);
+    member.told(1);
+    let verdict = |view| Event::Verdict { view, good: true };
+    member.inbox.answer(1, verdict(5));
+    member.is_opened(2);
+    member.inbox.answer(2, verdict(6));
+    // What its opening tells leads to view 5: the leader's vote that came early is due.
+    let told = member.told(4);
+    assert!(
+        matches!(told[2], (2, Event::Packet { sender: 1, .. })),
+        "{told:?}"
+    );
+    assert_eq!(told[3], (2, verdict(6)));
+    let metrics = member.metrics.clone();
+    assert_eq!((metrics.rewritten.get(), metrics.stuck.get()), (5, 0));
+    // Where it is to stop its node rewrites the record too, which isn't made necessary by its length.
+    member.stop();
+    assert_eq!((metrics.rewrites.get(), metrics.openings.get()), (1, 2));
+}
+
+#[test]
+fn a_rewrite_that_fails_ends_the_member_as_a_step_does() {
+    for is_at_end in [false, true] {
+        let folder = tempfile::tempdir().unwrap();
+        let record = Arc::new(Mutex::new(Record {
+            is_at_end,
+            fails: true,
+            ..Record::default()
+        }));
+        let (grown, network) = (record.clone(), Remembered::default());
+        let say = move |_, _: &Event| {
+            grown.lock().unwrap().bytes[0] = 100;
+            reply(Vec::new())
+        };
+        let member = Running::behind(0, record, folder.path(), LONG, network, say);
+        until("the member ends", || {
+            member.thread.is_finished().then_some(())
+        });
+        let told = format!("{:#}", member.thread.join().unwrap().unwrap_err());
+        assert!(told.contains("the disk is full"), "{told}");
+        assert_eq!(member.metrics.rewrites.get(), 0);
+    }
 }

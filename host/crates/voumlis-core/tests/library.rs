@@ -7,10 +7,13 @@ fn the_library_answers_as_the_child_does() {}
 
 #[cfg(feature = "library")]
 mod there {
+    use std::collections::VecDeque;
     use std::path::{Path, PathBuf};
-    use voumlis_core::member::{Child, Library, Member, NotYet};
+    use voumlis_core::member::{Child, Library, Member, NotYet, Rewriting, second_path};
     use voumlis_core::plain::{BASE, attestation};
-    use voumlis_core::wire::{Attestation, Channel, Event, On, Reply, Round, Vote, VoteKind};
+    use voumlis_core::wire::{
+        Action, Attestation, Channel, Event, On, Reply, Round, Vote, VoteKind,
+    };
 
     /// The program `simplex`: that of `VOUMLIS_PROGRAM`, or a proved one.
     fn program() -> PathBuf {
@@ -19,14 +22,19 @@ mod there {
         std::env::var_os("VOUMLIS_PROGRAM").map_or(proved, PathBuf::from)
     }
 
-    fn child(record: &Path) -> (Box<dyn Member>, Reply) {
-        let (child, first) = Child::open(&program(), record, 0, 4).unwrap();
+    fn child(record: &Path, members: u32) -> (Box<dyn Member>, Reply) {
+        let (child, first) = Child::open(&program(), record, 0, members).unwrap();
         (Box::new(child), first)
     }
 
-    fn library(record: &Path) -> (Box<dyn Member>, Reply) {
-        let (library, first) = Library::open(record, 0, 4).unwrap();
+    fn library(record: &Path, members: u16) -> (Box<dyn Member>, Reply) {
+        let (library, first) = Library::open(record, 0, members).unwrap();
         (Box::new(library), first)
+    }
+
+    /// What both files of a record hold.
+    fn stored(record: &Path) -> [Vec<u8>; 2] {
+        [record.to_owned(), second_path(record)].map(|path| std::fs::read(path).unwrap())
     }
 
     fn nullify(view: u64, signer: u32) -> Event {
@@ -90,35 +98,118 @@ mod there {
     fn the_library_answers_as_the_child_does() {
         let folder = tempfile::tempdir().unwrap();
         let (one, other) = (folder.path().join("one"), folder.path().join("other"));
-        let (node, first) = child(&one);
+        let (node, first) = child(&one, 4);
         let by_child = play(node, first);
-        let (node, first) = library(&other);
+        let (node, first) = library(&other, 4);
         let by_library = play(node, first);
         assert_eq!(by_library, by_child);
         assert!(by_child.iter().any(|reply| reply.refused != 0));
         assert!(by_child.iter().any(|reply| !reply.actions.is_empty()));
-        let records = [&one, &other].map(|record| std::fs::read(record).unwrap());
-        assert!(!records[0].is_empty());
+        let records = [&one, &other].map(|record| stored(record));
+        assert!(!records[0][0].is_empty());
         assert_eq!(records[0], records[1]);
 
         // Each opens what the other left.
-        let (node, by_child) = child(&other);
+        let (node, by_child) = child(&other, 4);
         node.close().unwrap();
-        let (node, by_library) = library(&one);
+        let (node, by_library) = library(&one, 4);
         node.close().unwrap();
         assert_eq!(by_library, by_child);
+    }
+
+    /// What the application and the clock of a committee of one answer.
+    fn answers(reply: &Reply) -> Vec<Event> {
+        let answered = reply.actions.iter().filter_map(|action| match action {
+            Action::Build {
+                request, context, ..
+            } => Some(Event::Built {
+                request: *request,
+                payload: Some([context.round.view as u8; 32]),
+            }),
+            Action::Verify { request, .. } => Some(Event::Checked {
+                request: *request,
+                answer: Some(true),
+            }),
+            Action::Certify(proposal) => Some(Event::Verdict {
+                view: proposal.round.view,
+                good: true,
+            }),
+            _ => None,
+        });
+        answered.collect()
+    }
+
+    /// The highest view that is final, by what a reply says.
+    fn last(reply: &Reply) -> u64 {
+        let views = reply.actions.iter().filter_map(|action| match action {
+            Action::Finalized(proposal) => Some(proposal.round.view),
+            _ => None,
+        });
+        views.max().unwrap_or(0)
+    }
+
+    /// A committee of one goes on until this view is final. Its clock rings where it waits for nothing else.
+    fn reach(node: &mut dyn Member, first: &Reply, view: u64) {
+        let (mut waiting, mut wake) = (VecDeque::from(answers(first)), 0);
+        let mut said = first.clone();
+        for _ in 0..100 * view {
+            let rings = said.actions.iter().find_map(|action| match action {
+                Action::Wake(moment) => Some(*moment),
+                _ => None,
+            });
+            wake = rings.unwrap_or(wake);
+            let event = waiting.pop_front().unwrap_or(Event::Moment(wake));
+            said = node.step(&event).unwrap();
+            if last(&said) >= view {
+                return;
+            }
+            waiting.extend(answers(&said));
+        }
+        panic!("view {view} isn't final");
+    }
+
+    #[test]
+    fn the_library_rewrites_a_record_while_it_runs_and_the_child_at_its_end() {
+        let folder = tempfile::tempdir().unwrap();
+        let record = folder.path().join("record");
+        let (mut node, first) = library(&record, 1);
+        reach(&mut *node, &first, 40);
+        let [long, nothing] = node.record_bytes().unwrap();
+        assert_eq!(nothing, 0);
+        let Rewriting::Done(Some(view)) = node.rewrite().unwrap() else {
+            panic!("it isn't rewritten");
+        };
+        assert!(view >= 40);
+        let [same, short] = node.record_bytes().unwrap();
+        assert!(same == long && short > 0 && short < long / 4);
+        assert_eq!(node.rewrite().unwrap(), Rewriting::Done(None));
+        node.close().unwrap();
+
+        // The child goes on from there, and has the first file again behind its end.
+        let (mut node, first) = child(&record, 1);
+        assert_eq!(last(&first), view);
+        assert_eq!(node.rewrite().unwrap(), Rewriting::AtItsEnd);
+        reach(&mut *node, &first, view + 40);
+        let [same, grown] = node.record_bytes().unwrap();
+        assert!(same == long && grown > 4 * short);
+        node.close().unwrap();
+        let (node, first) = library(&record, 1);
+        assert!(last(&first) >= view + 40);
+        let [short, same] = node.record_bytes().unwrap();
+        assert!(same == grown && short < long / 4);
+        node.close().unwrap();
     }
 
     #[test]
     fn a_record_that_a_library_has_is_opened_by_no_other() {
         let folder = tempfile::tempdir().unwrap();
         let record = folder.path().join("record");
-        let (node, _) = library(&record);
+        let (node, _) = library(&record, 4);
         let second = Library::open(&record, 0, 4).err().unwrap();
         assert!(second.is::<NotYet>(), "{second:#}");
         let second = Child::open(&program(), &record, 0, 4).err().unwrap();
         assert!(second.is::<NotYet>(), "{second:#}");
         node.close().unwrap();
-        library(&record).0.close().unwrap();
+        library(&record, 4).0.close().unwrap();
     }
 }

@@ -7,7 +7,6 @@ use hyper::service::service_fn;
 use hyper::{Body, Method, Request, Response, StatusCode, header};
 use serde_json::{Value, json};
 use std::convert::Infallible;
-use std::fs;
 use std::future::Future;
 use std::io;
 use std::path::PathBuf;
@@ -20,6 +19,7 @@ use tokio::net::{TcpListener, TcpStream};
 use tokio::sync::Semaphore;
 use tokio::time::{Sleep, sleep};
 use tracing::debug;
+use voumlis_core::member::record_bytes;
 use voumlis_core::metrics::{Metrics, Status};
 
 /// An answer that is on its way.
@@ -65,13 +65,7 @@ impl Told {
                 "queue": queue,
             })
         });
-        let mut second = self.record.clone().into_os_string();
-        second.push(".2");
-        let files = [self.record.clone().into_os_string(), second];
-        let record: u64 = files
-            .iter()
-            .map(|file| fs::metadata(file).map_or(0, |found| found.len()))
-            .sum();
+        let record: u64 = record_bytes(&self.record).map_or(0, |files| files.iter().sum());
         json!({
             "member": self.me,
             "members": self.members,

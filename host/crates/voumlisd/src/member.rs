@@ -104,14 +104,6 @@ fn opening(settings: &Settings, folder: &Path, me: u32, members: u32) -> Result<
 
 #[cfg(feature = "library")]
 fn library(record: PathBuf, me: u32, members: u32) -> Result<Box<Open>> {
-    // The program keeps a record in two files, of which the library reads the first: it might forget votes.
-    let mut second = record.clone().into_os_string();
-    second.push(".2");
-    ensure!(
-        std::fs::metadata(&second).map_or(true, |found| found.len() == 0),
-        "{} belongs to the record, and the library doesn't read it: go on with the program",
-        Path::new(&second).display()
-    );
     let (me, members) = (u16::try_from(me)?, u16::try_from(members)?);
     Ok(Box::new(move || {
         let (node, first) = voumlis_core::member::Library::open(&record, me, members)?;

@@ -11,6 +11,7 @@ use voumlis_core::chain::ChainSettings;
 use voumlis_core::committee::{Committee, PublicKey};
 use voumlis_core::engine::EngineSettings;
 use voumlis_core::frame::LONGEST_FRAME;
+use voumlis_core::growth::REWRITTEN_FROM;
 use voumlis_core::pace::{LONGEST_ROW, PaceSettings, SLOWEST};
 
 /// The name of a member's settings in its folder.
@@ -74,6 +75,8 @@ pub struct Limits {
     pub snapshot_views: u64,
     /// The most bytes of the log of reports: then it is put aside, in place of the one that was before.
     pub report_bytes: u64,
+    /// The record is rewritten where it has doubled since it was opened or rewritten, and has so many bytes at least.
+    pub record_bytes: u64,
     /// The most bytes that wait for one peer.
     pub queue_bytes: usize,
     /// Bytes that a peer may send at once, and each second.
@@ -93,6 +96,7 @@ impl Default for Limits {
             block_bytes: chain.longest_contents,
             snapshot_views: chain.snapshot_views,
             report_bytes: 1 << 30,
+            record_bytes: REWRITTEN_FROM,
             queue_bytes: 16 << 20,
             peer_bytes: (64e6, 32e6),
             peer_asks: (500.0, 100.0),
@@ -223,6 +227,7 @@ impl Limits {
         for (name, count) in [
             ("snapshot_views", self.snapshot_views),
             ("report_bytes", self.report_bytes),
+            ("record_bytes", self.record_bytes),
             ("queue_bytes", self.queue_bytes as u64),
             ("http_connections", self.http_connections as u64),
             ("strangers", self.strangers as u64),
@@ -363,6 +368,7 @@ impl Settings {
                 slower_after: self.pace.slower_after,
                 faster_after: self.pace.faster_after,
             },
+            rewritten_from: self.limits.record_bytes,
         }
     }
 }
@@ -415,6 +421,7 @@ mod tests {
             ("limits", "block_bytes", "9000000000000000000"),
             ("limits", "snapshot_views", "0"),
             ("limits", "queue_bytes", "0"),
+            ("limits", "record_bytes", "0"),
             ("limits", "http_connections", "0"),
             ("limits", "http_connections", "9000000000000000000"),
             ("limits", "strangers", "0"),

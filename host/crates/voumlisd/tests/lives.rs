@@ -153,6 +153,31 @@ fn a_record_is_opened_again_where_no_view_is_entered_for_long() {
 }
 
 #[test]
+fn a_record_that_has_doubled_is_rewritten_and_what_was_final_stays_final() {
+    let mut committee = Committee::new(4, |settings| settings.limits.record_bytes = 4_096);
+    committee.start_all();
+    // A file that a rewrite wrote begins with a head: then that has been done of both.
+    until("each record is rewritten, and again", || {
+        let files = (0..4).flat_map(|member| {
+            let folder = committee.member(member);
+            ["record", "record.2"].map(|name| fs::read(folder.join(name)).unwrap_or_default())
+        });
+        let is_rewritten = |file: Vec<u8>| file.len() > 9 && file[0] == 2;
+        files.map(is_rewritten).all(|it| it).then_some(())
+    });
+    let there = committee.highest();
+    committee.reach(&[0, 1, 2, 3], there + 4);
+    for member in 0..4 {
+        assert!(committee.metric(member, "voumlis_rewrites_total") >= 2.0);
+        assert!(committee.metric(member, "voumlis_rewritten_view") > 0.0);
+    }
+    (0..4).for_each(|member| committee.kill(member));
+    committee.start_all();
+    // A payload that differs from one seen before fails in `status`.
+    committee.reach(&[0, 1, 2, 3], there + 8);
+}
+
+#[test]
 fn a_committee_far_apart_gets_on_since_the_time_is_told_slower() {
     let mut committee = Committee::new(4, |_| {});
     let binary = Path::new(env!("CARGO_BIN_EXE_voumlisd"));

@@ -1,17 +1,19 @@
-use super::{Member, NotYet};
+use super::{Member, NotYet, Rewriting, record_bytes};
 use crate::wire::{Event, Reply, Trouble};
 use anyhow::{Context, Result, anyhow, bail};
 use std::io::{Read, Write};
 use std::os::unix::process::CommandExt;
-use std::path::Path;
+use std::path::{Path, PathBuf};
 use std::process::{ChildStdin, ChildStdout, Command, Stdio};
 use std::thread;
 use std::time::{Duration, Instant};
 use tracing::warn;
 
-/// The program `simplex node` as a child process: one event on its input, one reply on its output.
+/// The program `simplex node` as a child process: one event on its input, one reply on its output. Where its input ends it rewrites the
+/// record.
 pub struct Child {
     process: std::process::Child,
+    record: PathBuf,
     input: Option<ChildStdin>,
     output: ChildStdout,
     /// What was read and is no whole reply yet.
@@ -60,6 +62,7 @@ impl Child {
         let output = process.stdout.take().context("a pipe was asked for")?;
         let mut child = Child {
             process,
+            record: record.to_owned(),
             input,
             output,
             ahead: Vec::new(),
@@ -126,6 +129,15 @@ impl Member for Child {
             Ok(()) => self.reply(),
             Err(_) => Err(self.last_words()),
         }
+    }
+
+    fn record_bytes(&self) -> Result<[u64; 2]> {
+        Ok(record_bytes(&self.record)?)
+    }
+
+    /// No word of the host's but the end of its input has the program do it.
+    fn rewrite(&mut self) -> Result<Rewriting> {
+        Ok(Rewriting::AtItsEnd)
     }
 
     /// A machine that is busy may take its time. A child that doesn't end is killed: for its record that is a crash as any other.

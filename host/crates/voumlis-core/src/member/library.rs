@@ -1,21 +1,24 @@
-use super::{Member, NotYet};
+use super::{Member, NotYet, Rewriting, record_bytes};
 use crate::wire::{Action, Channel, Context, Event, Plan, Proposal, Reply, Round};
 use anyhow::{Result, bail};
 use std::io::ErrorKind;
-use std::path::Path;
+use std::path::{Path, PathBuf};
 use voumlis::{Ending, Node, wire};
 
 /// The node in this process, by the proved static library. It stays on the thread that opened it.
-pub struct Library(Node);
+pub struct Library {
+    node: Node,
+    record: PathBuf,
+}
 
 impl Library {
-    /// Opens this record as `member` of `members`.
+    /// Opens this record as `member` of `members`, in the two files that the program keeps it in.
     ///
     /// # Errors
     ///
-    /// Where it isn't opened: [`NotYet`] where another node has it.
+    /// Where it isn't opened: [`NotYet`] where another node has one of them.
     pub fn open(record: &Path, member: u16, members: u16) -> Result<(Library, Reply)> {
-        let (node, first) = match Node::open(record, member, members) {
+        let (node, first) = match Node::open_pair(record, member, members) {
             Ok(opened) => opened,
             Err(told) if told.kind() == ErrorKind::WouldBlock => {
                 return Err(NotYet("another node has it".to_owned()).into());
@@ -25,7 +28,8 @@ impl Library {
         let actions = first.actions.into_iter().map(action).collect();
         // The first reply answers no event: nothing is refused. By number, as in all replies.
         let refused = first.refused.map_or(0, |why| why as u8);
-        Ok((Library(node), Reply { refused, actions }))
+        let record = record.to_owned();
+        Ok((Library { node, record }, Reply { refused, actions }))
     }
 }
 
@@ -33,7 +37,7 @@ impl Member for Library {
     fn step(&mut self, event: &Event) -> Result<Reply> {
         let mut bytes = Vec::new();
         event.append(&mut bytes);
-        let replies = self.0.step_bytes(&bytes)?;
+        let replies = self.node.step_bytes(&bytes)?;
         let (reply, size) = Reply::read(&replies)?;
         if size != replies.len() {
             bail!("the node answered more than a reply");
@@ -41,8 +45,16 @@ impl Member for Library {
         Ok(reply)
     }
 
+    fn record_bytes(&self) -> Result<[u64; 2]> {
+        Ok(record_bytes(&self.record)?)
+    }
+
+    fn rewrite(&mut self) -> Result<Rewriting> {
+        Ok(Rewriting::Done(self.node.rewrite()?))
+    }
+
     fn close(self: Box<Self>) -> Result<()> {
-        match self.0.close() {
+        match self.node.close() {
             Ending::Closed => Ok(()),
             other => bail!("the node ended: {other:?}"),
         }
