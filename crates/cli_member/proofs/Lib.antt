@@ -1,2 +1,3 @@
 pub mod Comes
 pub mod Ended
+pub mod Unread
