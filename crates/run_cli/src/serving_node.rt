@@ -84,22 +84,29 @@ impl Medium {
 
     /// `fuse CALLS`, `fail_at CALLS`: of this name. Of two disks the first word names one.
     fn fail(&mut self, name: &str, words: &mut Words<'_>, say: &mut Say) -> Result<(), Trouble> {
-        let disk = match &mut self.disks {
-            Some(Disks::One(disk)) => disk,
-            Some(Disks::Two(first, second)) => match words.number()? {
-                1 => first,
-                2 => second,
+        let Some(disks) = &mut self.disks else {
+            return Err(Trouble::Condition);
+        };
+        match disks {
+            Disks::One(disk) => fail_disk(name, disk, words)?,
+            Disks::Two(first, second) => match words.number()? {
+                1 => fail_disk(name, first, words)?,
+                2 => fail_disk(name, second, words)?,
                 _ => return Err(Trouble::Unreadable),
             },
-            None => return Err(Trouble::Condition),
-        };
-        let calls = words.number()?;
-        words.end()?;
-        if name == "fuse" {
-            disk.fuse(calls);
-        } else {
-            disk.fail_at(calls);
         }
         say.ok()
     }
+}
+
+/// `CALLS`, of this name, on one disk.
+fn fail_disk(name: &str, disk: &mut MemoryDisk, words: &mut Words<'_>) -> Result<(), Trouble> {
+    let calls = words.number()?;
+    words.end()?;
+    if name == "fuse" {
+        disk.fuse(calls);
+    } else {
+        disk.fail_at(calls);
+    }
+    Ok(())
 }
