@@ -158,12 +158,12 @@ fn a_record_that_has_doubled_is_rewritten_and_what_was_final_stays_final() {
     committee.start_all();
     // A file that a rewrite wrote begins with a head: then that has been done of both.
     until("each record is rewritten, and again", || {
-        let files = (0..4).flat_map(|member| {
+        let mut files = (0..4).flat_map(|member| {
             let folder = committee.member(member);
             ["record", "record.2"].map(|name| fs::read(folder.join(name)).unwrap_or_default())
         });
         let is_rewritten = |file: Vec<u8>| file.len() > 9 && file[0] == 2;
-        files.map(is_rewritten).all(|it| it).then_some(())
+        files.all(is_rewritten).then_some(())
     });
     let there = committee.highest();
     committee.reach(&[0, 1, 2, 3], there + 4);
