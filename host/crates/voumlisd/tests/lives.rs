@@ -158,12 +158,12 @@ fn a_record_that_has_doubled_is_rewritten_and_what_was_final_stays_final() {
     committee.start_all();
     // A file that a rewrite wrote begins with a head: then that has been done of both.
     until("each record is rewritten, and again", || {
-        let files = (0..4).flat_map(|member| {
+        let mut files = (0..4).flat_map(|member| {
             let folder = committee.member(member);
             ["record", "record.2"].map(|name| fs::read(folder.join(name)).unwrap_or_default())
         });
         let is_rewritten = |file: Vec<u8>| file.len() > 9 && file[0] == 2;
-        files.map(is_rewritten).all(|it| it).then_some(())
+        files.all(is_rewritten).then_some(())
     });
     let there = committee.highest();
     committee.reach(&[0, 1, 2, 3], there + 4);
@@ -251,6 +251,7 @@ fn members_with_the_node_as_a_library_agree_with_one_that_has_a_child() {
     let mut committee = Committee::new(4, |settings| {
         // Member 0 has the program as a child.
         settings.library = settings.listen != settings.members[0].address;
+        settings.limits.record_bytes = 4_096;
     });
     committee.start_all();
     committee.reach(&[0, 1, 2, 3], 8);
@@ -261,4 +262,13 @@ fn members_with_the_node_as_a_library_agree_with_one_that_has_a_child() {
     committee.start(2);
     let there = committee.highest();
     committee.reach(&[2], there + 4);
+    // A library rewrites its record beside its work: it begins no new life for that.
+    until("records are rewritten", || {
+        let rewrites = |member| committee.metric(member, "voumlis_rewrites_total");
+        (rewrites(0) >= 2.0 && rewrites(1) >= 2.0).then_some(())
+    });
+    let stuck = committee.metric(1, "voumlis_stuck_total");
+    assert_eq!(committee.metric(1, "voumlis_openings_total"), 1.0 + stuck);
+    let there = committee.highest();
+    committee.reach(&[0, 1, 2, 3], there + 4);
 }
