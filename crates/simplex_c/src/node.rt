@@ -74,10 +74,7 @@ pub extern "C" fn voumlis_proved_node_open_pair(
     ensures unnamed { (result ≡ 0) ⊎ ((result ≡ 9) ⊎ (result ≡ 12)) → found.new.named ≡ 0 }
     ensures statuses { result ≤ 12 }
 {
-    if member >= members {
-        return Status::Argument.number();
-    }
-    if node.live != 0 {
+    if member >= members || node.live != 0 {
         return Status::Argument.number();
     }
     opened_pair(

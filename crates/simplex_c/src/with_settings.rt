@@ -188,7 +188,7 @@ pub extern "C" fn voumlis_proved_node_open_pair_with(
     ensures unnamed { (result ≡ 0) ⊎ ((result ≡ 9) ⊎ ((result ≡ 12) ⊎ (result ≡ 14))) → found.new.named ≡ 0 }
     ensures statuses { result ≤ 14 }
 {
-    if node.live != 0 {
+    if node.live > 0 {
         return Status::Argument.number();
     }
     opened_both(
