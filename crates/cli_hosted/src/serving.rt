@@ -471,6 +471,7 @@ fn placeless(fault: OpenFault) -> Status
 /// Why a step failed.
 fn unstepped(fault: NodeFault) -> Status
     ensures status { result ≡ unstepped_status fault }
+    ensures answers { (result ≡ Memory) ⊎ ((result ≡ Device) ⊎ (result ≡ Failed)) }
     ensures bound { status_number result ≤ 10 }
 {
     match fault {

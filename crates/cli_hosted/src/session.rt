@@ -1,13 +1,12 @@
 //! A member's node between two calls.
 
-ghost use Rattle.std.specs.Prelude.{◌≡◌, ◌<◌, ◌++◌, ℕ, IfOk, IfSome, None, OnErr, Some, true};
+ghost use Rattle.std.specs.Prelude.{◌≡◌, ◌<◌, ◌++◌, ℕ, IfOk, None, OnErr, Some, true};
+ghost use Rattle.std.specs.Option.{option_copied};
 ghost use Rattle.cli_settings.specs.Building.{config_of};
 ghost use Rattle.cli_settings.specs.Checking.{IsGood};
-ghost use Rattle.cli_hosted.specs.HostedDisk.{untouched};
+ghost use Rattle.cli_hosted.specs.HostedDisk.{disks_over, untouched};
 ghost use Rattle.cli_hosted.specs.Members.{AreLeaders, PlainReply, committee_of};
-ghost use Rattle.cli_hosted.specs.declared.requests.File.TheVariants as file;
 ghost use Rattle.journal_books.specs.Books.{are_two, may_rewrite};
-ghost use Rattle.journal_books.specs.declared.disks.Disks.TheVariants.{One, Two};
 ghost use Rattle.simplex_member.specs.declared.action.Reply.{Reply};
 ghost use Rattle.simplex_member.specs.Recorded.{kept_of};
 ghost use Rattle.simplex_member.specs.Setup.{brought_by, setup_of};
@@ -141,9 +140,7 @@ fn hosted(
     stored: &[u8],
     second: Option<&[u8]>,
 ) -> Result<(Disks<HostedDisk>, Requests), AllocError>
-    ensures one { second ≡ None → IfOk result (λ r. r.0 ≡ One (untouched file.First stored.now)) }
-    ensures two { IfSome second
-        (λ other. IfOk result (λ r. r.0 ≡ Two (untouched file.First stored.now) (untouched file.Second other.now))) }
+    ensures { IfOk result (λ r. r.0 ≡ disks_over stored.now (option_copied second.entry)) }
 {
     let requests = Requests::new(alloc)?;
     let first = disk_over(alloc, File::First, stored, &requests)?;
