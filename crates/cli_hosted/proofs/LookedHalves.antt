@@ -1,6 +1,8 @@
 -- How a call answers that leaves two files as they are.
-use Rattle.std.proofs.Common.{◌≡◌, ◌≢◌, ◌⊎◌, inl, inr, ⊎_elim, ℕ, List, Bool, true, false, drop, refl, sym, subst}
+use Rattle.std.proofs.Common.{◌≡◌, ◌≢◌, ◌⊎◌, inl, inr, ⊎_elim, ℕ, List, Bool, true, false, drop, refl, sym, ap, subst}
 use Rattle.journal_look.specs.Look.{BeginsLikeOne}
+use Rattle.simplex_journal.specs.Generation.{IsGeneration, IsOf}
+use Rattle.simplex_journal.specs.GenerationLaws.{number_any}
 use Rattle.simplex_record.specs.declared.owner.Owner.{Owner}
 use Rattle.cli_opening.specs.Halves.{IsBarredOnHalf, behind}
 use Rattle.cli_opening.specs.Looking.{IsBarredBy, IsBeyondCut}
@@ -53,3 +55,15 @@ no_half_by base members owner one other (barred.Foreign at) is bars = absurd cc
 no_half_by base members owner one other (barred.Unlawful at) is bars = absurd cc
 no_half_by base members owner one other (barred.Unclosed at) is bars = absurd cc
 no_half_by base members owner one other (barred.Behind at) is bars = absurd cc
+
+-- any bytes are of a generation or of none
+headed : (bytes : List ℕ) (generation : ℕ) (rest : List ℕ) → IsOf bytes generation rest → (number : ℕ) × (head : ℕ) × IsOf bytes number (drop head bytes)
+headed bytes generation rest (inl is) =
+    (generation, 9, inl (subst (λ (l : List ℕ). IsGeneration bytes generation l) (sym (ap (λ (l : List ℕ). drop 9 l) is.split)) is))
+headed bytes generation rest (inr (none, zero, same)) = (0, 0, inr (none, refl, refl))
+
+-- so of bytes that weren't looked at nothing is said
+pub unread : (base : List ℕ) (members : ℕ) (owner : Owner) (bytes : List ℕ) → IsBarredOnHalf base members owner bytes barred.Memory
+unread base members owner bytes =
+    let any = number_any bytes in let so = headed bytes any.0 any.1.0 any.1.1 in
+    record { generation = so.0; head = so.1; of = so.2; cause = barred.Memory; told = refl; barred = tt }
