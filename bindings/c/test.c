@@ -223,6 +223,199 @@ static void test_set_node(void) {
     WANT(voumlis_node_close(&node), VOUMLIS_ARGUMENT);
 }
 
+/* A file that a host keeps. */
+struct file {
+    uint8_t bytes[1024];
+    size_t length;
+};
+
+/* The number at the front of these bytes. */
+static size_t number(const uint8_t *at) {
+    size_t value = 0, i;
+    for (i = 0; i < 8; i++)
+        value = value << 8 | at[i];
+    return value;
+}
+
+/* Carries a node's requests out on the two files of its record, and drops its replies. Tells the tags that there were, a bit each. */
+static uint32_t carried_out(struct voumlis_node *node, struct file *files) {
+    static const uint8_t heads[] = {17, 9, 1};
+    struct voumlis_found found;
+    struct file *file;
+    uint8_t asked[2048], replies[4096];
+    uint32_t tags = 0;
+    size_t at, place, length;
+
+    WANT(voumlis_node_requests(node, asked, sizeof asked, &found), VOUMLIS_DONE);
+    length = found.length;
+    for (at = 0; at < length;) {
+        const uint8_t *request = asked + at;
+        if (*request > VOUMLIS_SYNC_SECOND || length - at < heads[*request % 3])
+            return 1u << 31;
+        tags |= 1u << *request;
+        file = &files[*request / 3];
+        at += heads[*request % 3];
+        if (*request % 3 == VOUMLIS_SYNC)
+            continue;
+        place = number(request + 1);
+        if (*request % 3 == VOUMLIS_CUT) {
+            if (file->length < place)
+                return 1u << 31;
+            file->length = place;
+            continue;
+        }
+        if (length - at < number(request + 9) || file->length < place || sizeof file->bytes - place < number(request + 9))
+            return 1u << 31;
+        memcpy(file->bytes + place, request + 17, number(request + 9));
+        if (file->length < place + number(request + 9))
+            file->length = place + number(request + 9);
+        at += number(request + 9);
+    }
+    WANT(voumlis_node_replies(node, replies, sizeof replies, &found), VOUMLIS_DONE);
+    return tags;
+}
+
+#define FIRST(request) (1u << (request))
+#define SECOND(request) (8u << (request))
+
+/* Has a committee of one make this view final: it builds, and its verdict is good. */
+static void finalize(int line, struct voumlis_node *node, uint8_t view) {
+    struct voumlis_found found;
+    struct voumlis_views views;
+    uint8_t built[35] = {1, 0, 1}, judged[3] = {3, 0, 1};
+
+    memset(built + 3, view, 32);
+    judged[1] = view;
+    want(line, voumlis_node_step(node, built, sizeof built, &found), VOUMLIS_DONE);
+    want(line, voumlis_node_step(node, judged, sizeof judged, &found), VOUMLIS_DONE);
+    want(line, voumlis_node_views(node, &views), VOUMLIS_DONE);
+    want(line, (uint32_t)views.finalized, view);
+}
+
+/* Opens the one member's node over both files. */
+static uint32_t open_files(struct file *files, struct voumlis_node *node, struct voumlis_found *found) {
+    return voumlis_node_open_pair(1, 0, 0, files[0].bytes, files[0].length, files[1].bytes, files[1].length, node, found);
+}
+
+/* A record in two files: what is asked of each, by docs/FORMATS.md, what a rewrite makes of them, and what is opened behind it. */
+static void test_pair(void) {
+    static struct file files[2], before;
+    struct voumlis_node node = VOUMLIS_NO_NODE;
+    struct voumlis_found found;
+    struct voumlis_views views;
+    uint8_t room[64];
+    /* Fix what stands in the first and in the second, write the closed gate of an empty record into the first, fix that. */
+    static const uint8_t begun[] = {2, 5, 0, 0, 0, 0, 0, 0, 0, 0, 0, 0, 0, 0, 0, 0, 0, 0, 1, 0, 2};
+    /* The head of generation 1, and the open gate of an artifact of 70 bytes: the finalization of epoch 0, view 1, parent 0. */
+    static const uint8_t head[] = {2, 255, 255, 255, 255, 0, 0, 0, 1, 1, 0, 0, 0, 70, 6, 0, 1, 0};
+
+    WANT(open_files(files, &node, &found), VOUMLIS_DONE);
+    WANT(open_files(files, &node, &found), VOUMLIS_ARGUMENT);
+    WANT(voumlis_node_requests(&node, room, sizeof room, &found), VOUMLIS_DONE);
+    want(__LINE__, (uint32_t)found.length, sizeof begun);
+    want(__LINE__, memcmp(room, begun, sizeof begun) != 0, 0);
+    files[0].bytes[0] = 0;
+    files[0].length = 1;
+    found.named = 7;
+    WANT(voumlis_node_rewrite(&node, &found), VOUMLIS_DONE);
+    want(__LINE__, found.named, 0);
+    WANT(carried_out(&node, files), 0);
+
+    /* What is final is rewritten once, into the second file. */
+    finalize(__LINE__, &node, 1);
+    WANT(carried_out(&node, files), FIRST(VOUMLIS_WRITE) | FIRST(VOUMLIS_SYNC));
+    before = files[0];
+    WANT(voumlis_node_rewrite(&node, &found), VOUMLIS_DONE);
+    want(__LINE__, found.named, 1);
+    want(__LINE__, (uint32_t)found.place, 1);
+    WANT(carried_out(&node, files), SECOND(VOUMLIS_WRITE) | SECOND(VOUMLIS_CUT) | SECOND(VOUMLIS_SYNC));
+    want(__LINE__, memcmp(&before, &files[0], sizeof before) != 0, 0);
+    want(__LINE__, (uint32_t)files[1].length, 85);
+    want(__LINE__, memcmp(files[1].bytes, head, sizeof head) != 0, 0);
+    WANT(voumlis_node_rewrite(&node, &found), VOUMLIS_DONE);
+    want(__LINE__, found.named, 0);
+    WANT(carried_out(&node, files), 0);
+    WANT(voumlis_node_close(&node), VOUMLIS_DONE);
+
+    /* It is opened again where it stood, goes on in the second file, and is rewritten into the first. */
+    WANT(open_files(files, &node, &found), VOUMLIS_DONE);
+    WANT(voumlis_node_views(&node, &views), VOUMLIS_DONE);
+    want(__LINE__, (uint32_t)views.current, 2);
+    want(__LINE__, (uint32_t)views.finalized, 1);
+    WANT(carried_out(&node, files), FIRST(VOUMLIS_SYNC) | SECOND(VOUMLIS_WRITE) | SECOND(VOUMLIS_CUT) | SECOND(VOUMLIS_SYNC));
+    finalize(__LINE__, &node, 2);
+    WANT(carried_out(&node, files), SECOND(VOUMLIS_WRITE) | SECOND(VOUMLIS_SYNC));
+    WANT(voumlis_node_rewrite(&node, &found), VOUMLIS_DONE);
+    want(__LINE__, (uint32_t)found.place, 2);
+    WANT(carried_out(&node, files), FIRST(VOUMLIS_WRITE) | FIRST(VOUMLIS_CUT) | FIRST(VOUMLIS_SYNC));
+    want(__LINE__, files[0].bytes[8], 2);
+    WANT(voumlis_node_close(&node), VOUMLIS_DONE);
+    /* From then on neither is a record alone. */
+    WANT(voumlis_node_open(1, 0, files[0].bytes, files[0].length, &node, &found), VOUMLIS_NO_RECORD);
+    WANT(voumlis_node_open(1, 0, files[1].bytes, files[1].length, &node, &found), VOUMLIS_NO_RECORD);
+    WANT(open_files(files, &node, &found), VOUMLIS_DONE);
+    WANT(voumlis_node_views(&node, &views), VOUMLIS_DONE);
+    want(__LINE__, (uint32_t)views.finalized, 2);
+    WANT(voumlis_node_close(&node), VOUMLIS_DONE);
+}
+
+/* Both files are looked at, the first before the second, and nothing is rewritten over one. */
+static void test_halves(void) {
+    struct voumlis_settings settings = voumlis_settings_of(4, 0);
+    struct voumlis_node node = VOUMLIS_NO_NODE, none = VOUMLIS_NO_NODE;
+    struct voumlis_found found;
+    static struct file files[2];
+    static const uint8_t lost[] = {1, 0, 0, 0, 9, 2};
+    /* Of generation 3, and behind its head an open gate without a whole entry. */
+    static const uint8_t torn[] = {2, 255, 255, 255, 255, 0, 0, 0, 3, 1, 0, 0, 0, 9, 2};
+
+    WANT(voumlis_node_open_pair(4, 4, 0, NULL, 0, NULL, 0, &node, &found), VOUMLIS_ARGUMENT);
+    WANT(voumlis_node_open_pair(4, 0, 0, record, sizeof record, NULL, 0, &node, &found), VOUMLIS_REFUSED);
+    WANT(voumlis_node_open_pair(4, 0, 0, NULL, 0, record, sizeof record, &node, &found), VOUMLIS_REFUSED);
+    want(__LINE__, (uint32_t)found.place, 0);
+    WANT(voumlis_node_open_pair(4, 0, 1, (const uint8_t *)"#", 1, torn, sizeof torn, &node, &found), VOUMLIS_NO_RECORD);
+    want(__LINE__, found.named, 0);
+    WANT(voumlis_node_open_pair(4, 0, 1, NULL, 0, (const uint8_t *)"#", 1, &node, &found), VOUMLIS_NO_RECORD);
+    WANT(voumlis_node_open_pair(4, 0, 0, lost, sizeof lost, torn, sizeof torn, &node, &found), VOUMLIS_TORN);
+    want(__LINE__, (uint32_t)found.place, 0);
+    WANT(voumlis_node_open_pair(4, 0, 0, NULL, 0, torn, sizeof torn, &node, &found), VOUMLIS_TORN);
+    want(__LINE__, (uint32_t)found.place, 9);
+    want(__LINE__, node.live, 0);
+    WANT(voumlis_node_open_pair(4, 0, 1, lost, sizeof lost, torn, sizeof torn, &node, &found), VOUMLIS_DONE);
+    WANT(voumlis_node_close(&node), VOUMLIS_DONE);
+    WANT(voumlis_node_open_pair(4, 0, 0, NULL, 1, NULL, 0, &node, &found), VOUMLIS_ARGUMENT);
+    WANT(voumlis_node_open_pair(4, 0, 0, NULL, 0, NULL, 1, &node, &found), VOUMLIS_ARGUMENT);
+    WANT(voumlis_node_open_pair(4, 0, 0, NULL, 0, (const uint8_t *)&node, 1, &node, &found), VOUMLIS_ARGUMENT);
+
+    WANT(voumlis_node_open_pair_with(&settings, 0, NULL, 0, torn, sizeof torn, &node, &found), VOUMLIS_TORN);
+    want(__LINE__, (uint32_t)found.place, 9);
+    WANT(voumlis_node_open_pair_with(&settings, 0, record, sizeof record, NULL, 0, &node, &found), VOUMLIS_REFUSED);
+    WANT(voumlis_node_open_pair_with(&settings, 1, NULL, 0, torn, sizeof torn, &node, &found), VOUMLIS_DONE);
+    WANT(voumlis_node_open_pair_with(&settings, 1, NULL, 0, torn, sizeof torn, &node, &found), VOUMLIS_ARGUMENT);
+    WANT(voumlis_node_close(&node), VOUMLIS_DONE);
+    WANT(voumlis_node_open_pair_with(&settings, 0, NULL, 0, NULL, 1, &node, &found), VOUMLIS_ARGUMENT);
+    settings.retention = 0;
+    WANT(voumlis_node_open_pair_with(&settings, 0, NULL, 0, NULL, 0, &node, &found), VOUMLIS_SETTINGS);
+    want(__LINE__, (uint32_t)found.place, VOUMLIS_RETENTION_ZERO);
+    settings.version = 2;
+    WANT(voumlis_node_open_pair_with(&settings, 0, NULL, 0, NULL, 0, &node, &found), VOUMLIS_VERSION);
+    want(__LINE__, node.live, 0);
+
+    WANT(voumlis_node_open(1, 0, NULL, 0, &node, &found), VOUMLIS_DONE);
+    finalize(__LINE__, &node, 1);
+    WANT(carried_out(&node, files), FIRST(VOUMLIS_WRITE) | FIRST(VOUMLIS_SYNC));
+    found.named = 7;
+    WANT(voumlis_node_rewrite(&node, &found), VOUMLIS_DONE);
+    want(__LINE__, found.named, 0);
+    WANT(carried_out(&node, files), 0);
+    WANT(voumlis_node_rewrite(&node, NULL), VOUMLIS_ARGUMENT);
+    WANT(voumlis_node_rewrite(&node, (struct voumlis_found *)&node), VOUMLIS_ARGUMENT);
+    WANT(voumlis_node_rewrite(&none, &found), VOUMLIS_ARGUMENT);
+    WANT(voumlis_node_rewrite(NULL, &found), VOUMLIS_ARGUMENT);
+    WANT(voumlis_node_close(&node), VOUMLIS_DONE);
+    WANT(voumlis_node_rewrite(&node, &found), VOUMLIS_ARGUMENT);
+}
+
 /* The notarization of view 2 of epoch 0 by members 0, 1 and 2 of four, of docs/FORMATS.md. */
 static const uint8_t front[] = {0, 0, 2, 1};
 static const uint8_t signers[3][33] = {
@@ -337,6 +530,8 @@ int main(void) {
     test_node();
     test_settings();
     test_set_node();
+    test_pair();
+    test_halves();
     test_light();
     return failed;
 }

@@ -77,11 +77,15 @@ struct voumlis_node {
 };
 #define VOUMLIS_NO_NODE {0, NULL}
 
-/* What a node asks the host to do with its record, one behind another, each number in eight bytes, the highest first. */
+/* What a node asks the host to do with its record, one behind another, each number in eight bytes, the highest first. The last
+ * three are spelled as the first three, and come only where the record stands in two files. */
 enum voumlis_request {
     VOUMLIS_WRITE = 0, /* then a place, how many bytes, and the bytes: write them from that place on */
     VOUMLIS_CUT = 1,   /* then a length: cut off all behind it */
-    VOUMLIS_SYNC = 2   /* fix what stands there, so that a crash leaves it */
+    VOUMLIS_SYNC = 2,  /* fix what stands there, so that a crash leaves it */
+    VOUMLIS_WRITE_SECOND = 3, /* the same in the second file */
+    VOUMLIS_CUT_SECOND = 4,
+    VOUMLIS_SYNC_SECOND = 5
 };
 
 /* What can be wrong with settings: of several the one with the least number is told. */
@@ -187,6 +191,13 @@ uint32_t voumlis_proved_node_open(uint16_t members, uint16_t member, uint32_t cu
 uint32_t voumlis_proved_node_open_with(const struct voumlis_settings *settings, const uint8_t *base, size_t base_length,
                                        const uint8_t *seed, size_t seed_length, uint32_t cuts, const uint8_t *record,
                                        size_t record_length, struct voumlis_node *node, struct voumlis_found *found);
+uint32_t voumlis_proved_node_open_pair(uint16_t members, uint16_t member, uint32_t cuts, const uint8_t *record,
+                                       size_t record_length, const uint8_t *second, size_t second_length,
+                                       struct voumlis_node *node, struct voumlis_found *found);
+uint32_t voumlis_proved_node_open_pair_with(const struct voumlis_settings *settings, const uint8_t *base, size_t base_length,
+                                            const uint8_t *seed, size_t seed_length, uint32_t cuts, const uint8_t *record,
+                                            size_t record_length, const uint8_t *second, size_t second_length,
+                                            struct voumlis_node *node, struct voumlis_found *found);
 uint32_t voumlis_proved_settings_check(const struct voumlis_settings *settings, const uint8_t *base, size_t base_length,
                                        const uint8_t *seed, size_t seed_length, struct voumlis_found *found);
 uint32_t voumlis_proved_node_views(struct voumlis_node *node, struct voumlis_views *views);
@@ -199,6 +210,7 @@ uint32_t voumlis_proved_finalized_in(const struct voumlis_settings *settings, co
 uint32_t voumlis_proved_attestations(uint32_t kind, uint32_t members, const uint8_t *bytes, size_t length,
                                      struct voumlis_attestation *room, size_t room_length, struct voumlis_found *found);
 uint32_t voumlis_proved_node_step(struct voumlis_node *node, const uint8_t *events, size_t length, struct voumlis_found *found);
+uint32_t voumlis_proved_node_rewrite(struct voumlis_node *node, struct voumlis_found *found);
 uint32_t voumlis_proved_node_requests(struct voumlis_node *node, uint8_t *room, size_t length, struct voumlis_found *found);
 uint32_t voumlis_proved_node_replies(struct voumlis_node *node, uint8_t *room, size_t length, struct voumlis_found *found);
 uint32_t voumlis_proved_node_close(struct voumlis_node *node);
@@ -282,6 +294,22 @@ static inline uint32_t voumlis_node_open_cutting(uint16_t members, uint16_t memb
 static inline uint32_t voumlis_node_open(uint16_t members, uint16_t member, const uint8_t *record, size_t record_length,
                                          struct voumlis_node *node, struct voumlis_found *found) {
     return voumlis_node_open_cutting(members, member, 0, record, record_length, node, found);
+}
+
+/* Opens a node as `voumlis_node_open_cutting` does, over a record that stands in two files, so that it can be rewritten: over the
+ * bytes of both, each of length 0 while it is new. A record of one file is opened beside an empty second one. FROM THEN ON BOTH
+ * FILES ARE THE RECORD: each opening is over both, in this order, and neither is opened alone any more, by `voumlis_node_open`
+ * or a program: after a rewrite what was voted may stand in the other. Each is looked at, `record` first: NO_RECORD, FOREIGN,
+ * REFUSED and TORN tell what is wrong with the first that isn't of a record of this member, by a place in that file. Which one it
+ * is isn't told. What of the record isn't read is kept in memory until it is rewritten. */
+static inline uint32_t voumlis_node_open_pair(uint16_t members, uint16_t member, uint32_t cuts, const uint8_t *record,
+                                              size_t record_length, const uint8_t *second, size_t second_length,
+                                              struct voumlis_node *node, struct voumlis_found *found) {
+    if (!voumlis_fits(&record, record_length, found) || !voumlis_fits(&second, second_length, found) ||
+        !voumlis_holds(node, 0) || !voumlis_apart(node, sizeof *node, record, record_length) ||
+        !voumlis_apart(node, sizeof *node, second, second_length) || !voumlis_apart(node, sizeof *node, found, sizeof *found))
+        return VOUMLIS_ARGUMENT;
+    return voumlis_proved_node_open_pair(members, member, cuts, record, record_length, second, second_length, node, found);
 }
 
 /* The settings of the program `simplex node`, as `member` of `members` is set up by it. */
@@ -428,6 +456,29 @@ static inline uint32_t voumlis_node_open_with(const struct voumlis_settings *set
                                          record_length, node, found);
 }
 
+/* Opens a node as `voumlis_node_open_pair` does, but with these settings, which are read during the call alone. Answers as that,
+ * and as `voumlis_settings_check`. */
+static inline uint32_t voumlis_node_open_pair_with(const struct voumlis_settings *settings, uint32_t cuts,
+                                                   const uint8_t *record, size_t record_length, const uint8_t *second,
+                                                   size_t second_length, struct voumlis_node *node,
+                                                   struct voumlis_found *found) {
+    const uint8_t *base, *seed;
+    uint32_t status;
+    if (!voumlis_fits(&record, record_length, found) || !voumlis_fits(&second, second_length, found) ||
+        !voumlis_holds(node, 0) || !voumlis_apart(node, sizeof *node, record, record_length) ||
+        !voumlis_apart(node, sizeof *node, second, second_length) || !voumlis_apart(node, sizeof *node, found, sizeof *found))
+        return VOUMLIS_ARGUMENT;
+    status = voumlis_sets(settings, &base, &seed, found);
+    if (status != VOUMLIS_DONE)
+        return status;
+    if (!voumlis_apart(node, sizeof *node, settings, sizeof *settings) ||
+        !voumlis_apart(node, sizeof *node, base, settings->base_length) ||
+        !voumlis_apart(node, sizeof *node, seed, settings->seed_length))
+        return VOUMLIS_ARGUMENT;
+    return voumlis_proved_node_open_pair_with(settings, base, settings->base_length, seed, settings->seed_length, cuts, record,
+                                              record_length, second, second_length, node, found);
+}
+
 /* Has a node answer events, one behind another (docs/FORMATS.md): the replies wait. BEFORE ANYTHING OF A REPLY IS CARRIED OUT
  * the host takes the requests, and carries them out on the record in their order; where it can't, it lets the node go and
  * carries out nothing more. DONE: the bytes ended between two events. INVALID: the place is that of the first byte at which no
@@ -439,6 +490,18 @@ static inline uint32_t voumlis_node_step(struct voumlis_node *node, const uint8_
         !voumlis_apart(node, sizeof *node, events, length) || !voumlis_apart(node, sizeof *node, found, sizeof *found))
         return VOUMLIS_ARGUMENT;
     return voumlis_proved_node_step(node, events, length, found);
+}
+
+/* Rewrites the record of a node over two files, so that it begins with the last finalization: what doesn't reach above that is
+ * dropped from the record, and from the node's memory. Nothing is handed out. BEFORE ANYTHING ELSE the host takes the requests and
+ * carries them out, as behind a step. DONE: the place is the view of that finalization, where one is named; none is where nothing
+ * was to be rewritten, as always over one file. MEMORY, DEVICE, FAILED as of `voumlis_node_step`. ARGUMENT: no node is open there. */
+static inline uint32_t voumlis_node_rewrite(struct voumlis_node *node, struct voumlis_found *found) {
+    const uint8_t *nothing = NULL;
+    if (!voumlis_fits(&nothing, 0, found) || !voumlis_holds(node, 1) ||
+        !voumlis_apart(node, sizeof *node, found, sizeof *found))
+        return VOUMLIS_ARGUMENT;
+    return voumlis_proved_node_rewrite(node, found);
 }
 
 /* Whether a node's answers can be put there. */

@@ -1,4 +1,5 @@
 pub mod Places
 pub mod Values
 pub mod Looked
+pub mod LookedHalves
 pub mod Opens

@@ -18,7 +18,7 @@ never_done (barred.Unlawful position) is = absurd cc
 never_done (barred.Unclosed place) is = absurd cc
 never_done (barred.Behind place) is = absurd cc
 
-unasked : (cuts : Bool) → (cuts ≡ true → ⊥) → cuts ≡ false
+pub unasked : (cuts : Bool) → (cuts ≡ true → ⊥) → cuts ≡ false
 unasked true never = absurd (never refl)
 unasked false never = refl
 

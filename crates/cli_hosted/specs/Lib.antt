@@ -1,5 +1,6 @@
 pub mod HostedDisk
 pub mod Members
+pub mod Pairs
 pub mod Place
 pub mod Requests
 pub mod Serving

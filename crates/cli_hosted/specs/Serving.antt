@@ -96,3 +96,12 @@ run_status (Err why) = ending_status why
 abbrev pub run_place : {A : Type 0} → Result A IoFault → Option ℕ
 run_place (Err (io.BadEvent place)) = Some place
 run_place x = None
+
+-- of a rewrite: the view behind which the record begins is named, where it was rewritten
+abbrev pub rewrite_status : Result (Option ℕ) NodeFault → Status
+rewrite_status (Ok view) = status.Done
+rewrite_status (Err why) = unstepped_status why
+
+abbrev pub rewrite_place : Result (Option ℕ) NodeFault → Option ℕ
+rewrite_place (Ok view) = view
+rewrite_place (Err why) = None

@@ -2,20 +2,23 @@
 
 ghost use Rattle.std.specs.Prelude.{◌≡◌, ◌+◌, [], is_ok, false, true, max, length, take, drop, IfOk, OnOk, OnErr, IsErr};
 ghost use Rattle.journal_single.specs.Disk.{counted};
+ghost use Rattle.cli_hosted.specs.HostedDisk.{untouched};
 
-use crate::requests::Requests;
+use crate::requests::{File, Requests};
 use journal_single::{Disk, DiskFault};
 use std::alloc::{AllocError, Global};
 use std::marker::Model;
 
-/// A disk over a record's bytes that were handed in. What is to be changed is asked of the host, who carries it out before it
-/// carries out anything of a reply that comes with it. Nothing is claimed of the bytes that the host keeps.
+/// A disk over the bytes of a record's file that were handed in. What is to be changed is asked of the host, who carries it out before
+/// it carries out anything of a reply that comes with it. Nothing is claimed of the bytes that the host keeps.
 ///
-/// Once something was asked the bytes that were handed in are let go, and a read fails: a journal reads as it is opened, and no
-/// more. After a change that could not be asked every call fails, until the record is opened anew.
+/// Once a change was asked the bytes that were handed in are let go, and a read fails: a journal reads as it is opened, and no more. So
+/// of two files the one that isn't read stays in memory until the record is rewritten. After a change that could not be asked every
+/// call fails, until the record is opened anew.
 #[derive(Drop)]
 pub(crate) struct HostedDisk {
     alloc: Global,
+    file: File,
     record_bytes: Vec<u8>,
     changed: bool,
     length: u64,
@@ -30,6 +33,7 @@ impl Model for HostedDisk {
     ghost Value = { HostedState };
 
     ghost view = { λ disk. record {
+      file = disk.file;
       record_bytes = disk.record_bytes.items;
       changed = disk.changed;
       length = disk.length;
@@ -39,14 +43,19 @@ impl Model for HostedDisk {
 }
 
 impl HostedDisk {
-    /// A disk over a record's bytes, which asks by this list.
-    pub(crate) fn over(alloc: Global, record_bytes: Vec<u8>, requests: Requests) -> HostedDisk
-        ensures { result ≡ record
-            { record_bytes = record_bytes.items; changed = false; length = length record_bytes.items; failures = 0; broken = false } }
+    /// A disk over the bytes of this file, which asks by this list.
+    pub(crate) fn over(
+        alloc: Global,
+        file: File,
+        record_bytes: Vec<u8>,
+        requests: Requests,
+    ) -> HostedDisk
+        ensures { result ≡ untouched file record_bytes.items }
     {
         let length = record_bytes.len() as u64;
         HostedDisk {
             alloc,
+            file,
             record_bytes,
             changed: false,
             length,
@@ -149,7 +158,7 @@ impl Disk for HostedDisk {
             self.broken = true;
             return Err(self.fault());
         };
-        let made = self.requests.write(at, bytes);
+        let made = self.requests.write(self.file, at, bytes);
         self.asked(made, end.max(self.length))
     }
 
@@ -160,7 +169,7 @@ impl Disk for HostedDisk {
         ensures cause { self.new.failures ≡ counted (is_ok result) self.old.failures }
     {
         self.admit()?;
-        let made = self.requests.cut(len);
+        let made = self.requests.cut(self.file, len);
         self.asked(made, len)
     }
 
@@ -171,7 +180,7 @@ impl Disk for HostedDisk {
         ensures cause { self.new.failures ≡ counted (is_ok result) self.old.failures }
     {
         self.admit()?;
-        match self.requests.sync() {
+        match self.requests.sync(self.file) {
             Ok(()) => Ok(()),
             Err(_) => {
                 self.broken = true;

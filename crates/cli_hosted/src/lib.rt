@@ -17,6 +17,9 @@ pub use found::Found;
 pub use handle::Handle;
 pub use place::Place;
 pub use room::put;
-pub use serving::{closed, opened, opened_by, replies_taken, requests_taken, stepped, views_told};
+pub use serving::{
+    closed, opened, opened_by, opened_pair, opened_pair_by, replies_taken, requests_taken,
+    rewritten, stepped, views_told,
+};
 pub use status::Status;
 pub use views::Views;

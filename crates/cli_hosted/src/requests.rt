@@ -1,14 +1,36 @@
 //! What a host is asked to do with the bytes that it keeps.
 
 ghost use Rattle.std.specs.Prelude.{◌≡◌, ◌++◌, ◌≤◌, ◌<◌, [], ◌⊎◌, length, take, Ok, Err, OnErr, OnOk};
-ghost use Rattle.cli_hosted.specs.Requests.{cutting, fixing, number, writing};
+ghost use Rattle.cli_hosted.specs.Requests.{cutting, fixing, number, tag_of, writing};
 
 use crate::room::put;
 use std::alloc::{AllocError, Global};
 use std::cell::RefCell;
 use std::rc::Rc;
 
-/// What was asked and was not taken yet, the oldest first. It is shared by the disk, which adds to it, and by whoever takes it.
+/// Which of a record's files a request speaks of.
+#[derive(Clone, Copy, Drop)]
+pub(crate) enum File {
+    /// The one, or the first of two.
+    First,
+    /// The second of two.
+    Second,
+}
+
+impl File {
+    /// The tag of a request of this file that has the given one for the first.
+    fn tag(self, first: u8) -> u8
+        requires { first < 3 }
+        ensures { result ≡ tag_of self first }
+    {
+        match self {
+            File::First => first,
+            File::Second => first + 3,
+        }
+    }
+}
+
+/// What was asked and was not taken yet, the oldest first. It is shared by the disks, which add to it, and by whoever takes it.
 #[derive(Drop)]
 pub(crate) struct Requests {
     list: Rc<RefCell<Vec<u8>>>,
@@ -39,26 +61,26 @@ impl Requests {
         }
     }
 
-    /// Asks to write bytes from a place on. Where there is no memory for that, nothing is asked.
-    pub(crate) fn write(&self, at: u64, bytes: &[u8]) -> Result<(), AllocError> {
+    /// Asks to write bytes into a file from a place on. Where there is no memory for that, nothing is asked.
+    pub(crate) fn write(&self, file: File, at: u64, bytes: &[u8]) -> Result<(), AllocError> {
         match self.list.try_borrow_mut() {
-            Ok(mut list) => push_writing(&mut list, at, bytes),
+            Ok(mut list) => push_writing(&mut list, file, at, bytes),
             Err(_) => Err(AllocError),
         }
     }
 
-    /// Asks to cut off all behind a length.
-    pub(crate) fn cut(&self, len: u64) -> Result<(), AllocError> {
+    /// Asks to cut off all of a file behind a length.
+    pub(crate) fn cut(&self, file: File, len: u64) -> Result<(), AllocError> {
         match self.list.try_borrow_mut() {
-            Ok(mut list) => push_cutting(&mut list, len),
+            Ok(mut list) => push_cutting(&mut list, file, len),
             Err(_) => Err(AllocError),
         }
     }
 
-    /// Asks to fix what stands there.
-    pub(crate) fn sync(&self) -> Result<(), AllocError> {
+    /// Asks to fix what stands in a file.
+    pub(crate) fn sync(&self, file: File) -> Result<(), AllocError> {
         match self.list.try_borrow_mut() {
-            Ok(mut list) => push_fixing(&mut list),
+            Ok(mut list) => push_fixing(&mut list, file),
             Err(_) => Err(AllocError),
         }
     }
@@ -82,13 +104,13 @@ pub(crate) fn take_all(list: &mut Vec<u8>, room: &mut [u8]) -> Result<usize, usi
 }
 
 /// Ends the list with this request, or leaves it as it was.
-fn push_writing(list: &mut Vec<u8>, at: u64, bytes: &[u8]) -> Result<(), AllocError>
-    ensures ok { OnOk result (list.new.items ≡ list.old.items ++ writing at bytes.now) }
+fn push_writing(list: &mut Vec<u8>, file: File, at: u64, bytes: &[u8]) -> Result<(), AllocError>
+    ensures ok { OnOk result (list.new.items ≡ list.old.items ++ writing file at bytes.now) }
     ensures same { OnErr result (list.new.items ≡ list.old.items) }
 {
     // Whatever memory may refuse comes before the first byte.
     list.reserve(bytes.len() + 17)?;
-    list.push(0).unwrap();
+    list.push(file.tag(0)).unwrap();
     list.extend_from_slice(&number(at)).unwrap();
     list.extend_from_slice(&number(bytes.len() as u64)).unwrap();
     list.extend_from_slice(bytes).unwrap();
@@ -96,22 +118,22 @@ fn push_writing(list: &mut Vec<u8>, at: u64, bytes: &[u8]) -> Result<(), AllocEr
 }
 
 /// Ends the list with this request, or leaves it as it was.
-fn push_cutting(list: &mut Vec<u8>, len: u64) -> Result<(), AllocError>
-    ensures ok { OnOk result (list.new.items ≡ list.old.items ++ cutting len) }
+fn push_cutting(list: &mut Vec<u8>, file: File, len: u64) -> Result<(), AllocError>
+    ensures ok { OnOk result (list.new.items ≡ list.old.items ++ cutting file len) }
     ensures same { OnErr result (list.new.items ≡ list.old.items) }
 {
     list.reserve(9)?;
-    list.push(1).unwrap();
+    list.push(file.tag(1)).unwrap();
     list.extend_from_slice(&number(len)).unwrap();
     Ok(())
 }
 
 /// Ends the list with this request, or leaves it as it was.
-fn push_fixing(list: &mut Vec<u8>) -> Result<(), AllocError>
-    ensures ok { OnOk result (list.new.items ≡ list.old.items ++ fixing) }
+fn push_fixing(list: &mut Vec<u8>, file: File) -> Result<(), AllocError>
+    ensures ok { OnOk result (list.new.items ≡ list.old.items ++ fixing file) }
     ensures same { OnErr result (list.new.items ≡ list.old.items) }
 {
-    list.push(2)?;
+    list.push(file.tag(2))?;
     Ok(())
 }
 

@@ -1,13 +1,14 @@
 //! Calls on a member's node.
 
-ghost use Rattle.std.specs.Prelude.{◌≡◌, ◌≢◌, ◌<◌, ◌≤◌, ◌⊎◌, Ok, Err, IfErr, IfOk, false, true};
+ghost use Rattle.std.specs.Prelude.{◌≡◌, ◌≢◌, ◌<◌, ◌≤◌, ◌⊎◌, Ok, Err, IfErr, IfOk, OnOk, false, true};
 ghost use Rattle.journal_look.specs.Look.{BeginsLikeOne};
 ghost use Rattle.cli_settings.specs.Checking.{HasTurns, IsGood};
 ghost use Rattle.cli_opening.specs.Looking.{IsBeyondCut};
 ghost use Rattle.cli_hosted.specs.Members.{IsBarredFor, IsFoundFor, owner_of};
+ghost use Rattle.cli_hosted.specs.Pairs.{AreBarredAt, AreBarredBy, AreLookedAt, AreLookedAtBy, AreTornAt, AreTornBy, BeginsAsNone};
 ghost use Rattle.cli_hosted.specs.Statuses.{Names, status_number};
-ghost use Rattle.cli_hosted.specs.Serving.{IsLookedAt, IsLookedAtBy, IsTornAt, IsTornBy, barred_place, barred_status, ending_status, run_place, run_status, unopened_place, unopened_status, unstepped_status};
-ghost use Rattle.cli_hosted.specs.declared.status.Status.TheVariants.{Argument, Device, Done, Foreign, Invalid, NoRecord, Refused, Room, Torn};
+ghost use Rattle.cli_hosted.specs.Serving.{IsLookedAt, IsLookedAtBy, IsTornAt, IsTornBy, barred_place, barred_status, ending_status, rewrite_place, rewrite_status, run_place, run_status, unopened_place, unopened_status, unstepped_status};
+ghost use Rattle.cli_hosted.specs.declared.status.Status.TheVariants.{Argument, Device, Done, Failed, Foreign, Invalid, Memory, NoRecord, Refused, Room, Torn};
 
 use crate::found::Found;
 use crate::handle::Handle;
@@ -15,7 +16,7 @@ use crate::requests::take_all;
 use crate::session::Session;
 use crate::status::Status;
 use crate::views::Views;
-use cli_opening::{Barred, Found as Looked, look_at, look_at_by};
+use cli_opening::{Barred, Found as Looked, look_at, look_at_by, look_at_half, look_at_half_by};
 use cli_settings::Settings;
 use simplex_member::{IoFault, NodeFault, OpenFault};
 use simplex_record::Owner;
@@ -45,7 +46,11 @@ pub fn opened(
     ensures bound { status_number result ≤ 12 }
 {
     match look_at(alloc, stored, member, members, cuts) {
-        Ok(_) => begun(Session::open(alloc, members, member, stored), node, found),
+        Ok(_) => begun(
+            Session::open(alloc, members, member, stored, None),
+            node,
+            found,
+        ),
         Err(why) => left(why, found),
     }
 }
@@ -71,9 +76,113 @@ pub fn opened_by(
     ensures bound { status_number result ≤ 12 }
 {
     match look_by(alloc, settings, cuts, stored) {
-        Ok(_) => begun(Session::open_by(alloc, settings, stored), node, found),
+        Ok(_) => begun(Session::open_by(alloc, settings, stored, None), node, found),
         Err(why) => left(why, found),
     }
+}
+
+/// Opens a member's node over its record in two files, where none is open yet and the bytes of each are of one as a crash may leave it.
+/// The record is that of the greater generation, of one file beside an empty one as well. Where `cuts`, the last gate of each and what
+/// stands behind it may be anything.
+#[tactic(auto, using(crate::proofs::Looked::named_by, crate::proofs::Looked::never_done, crate::proofs::Looked::unnamed_by, crate::proofs::LookedHalves::half_torn_by, crate::proofs::LookedHalves::no_half_by))]
+pub fn opened_pair(
+    alloc: Global,
+    members: u16,
+    member: u16,
+    cuts: bool,
+    stored: &[u8],
+    second: &[u8],
+    node: &mut Handle,
+    found: &mut Found,
+) -> Status
+    requires { member < members }
+    ensures opened { result ≡ Done → node.new.live ≡ 1 }
+    ensures unopened { result ≢ Done → node.new ≡ node.old }
+    ensures looked { result ≡ Done → AreLookedAt member members cuts stored.now second.now }
+    ensures torn { result ≡ Torn → (cuts ≡ false) × AreTornAt member members stored.now second.now found.new.place }
+    ensures no_record { result ≡ NoRecord → BeginsAsNone stored.now ⊎ BeginsAsNone second.now }
+    ensures named { (result ≡ Refused) ⊎ ((result ≡ Foreign) ⊎ (result ≡ Torn)) → found.new.named ≡ 1 }
+    ensures unnamed { (result ≡ Done) ⊎ ((result ≡ Device) ⊎ (result ≡ NoRecord)) → found.new.named ≡ 0 }
+    ensures bound { status_number result ≤ 12 }
+{
+    match look_at_both(alloc, members, member, cuts, stored, second) {
+        Ok(()) => {
+            let opening = Session::open(alloc, members, member, stored, Some(second));
+            begun(opening, node, found)
+        }
+        Err(why) => left(why, found),
+    }
+}
+
+/// The same of a member that is set up by these settings.
+#[tactic(auto, using(crate::proofs::Looked::named_by, crate::proofs::Looked::never_done, crate::proofs::Looked::unnamed_by, crate::proofs::LookedHalves::half_torn_by, crate::proofs::LookedHalves::no_half_by))]
+pub fn opened_pair_by(
+    alloc: Global,
+    settings: &Settings,
+    cuts: bool,
+    stored: &[u8],
+    second: &[u8],
+    node: &mut Handle,
+    found: &mut Found,
+) -> Status
+    requires { IsGood settings.now }
+    ensures opened { result ≡ Done → node.new.live ≡ 1 }
+    ensures unopened { result ≢ Done → node.new ≡ node.old }
+    ensures looked { result ≡ Done → AreLookedAtBy settings.now cuts stored.now second.now }
+    ensures torn { result ≡ Torn → (cuts ≡ false) × AreTornBy settings.now stored.now second.now found.new.place }
+    ensures no_record { result ≡ NoRecord → BeginsAsNone stored.now ⊎ BeginsAsNone second.now }
+    ensures named { (result ≡ Refused) ⊎ ((result ≡ Foreign) ⊎ (result ≡ Torn)) → found.new.named ≡ 1 }
+    ensures unnamed { (result ≡ Done) ⊎ ((result ≡ Device) ⊎ (result ≡ NoRecord)) → found.new.named ≡ 0 }
+    ensures bound { status_number result ≤ 12 }
+{
+    match look_at_both_by(alloc, settings, cuts, stored, second) {
+        Ok(()) => {
+            let opening = Session::open_by(alloc, settings, stored, Some(second));
+            begun(opening, node, found)
+        }
+        Err(why) => left(why, found),
+    }
+}
+
+/// Looks at the bytes of a record's two files, the first before the second, as this member of so many has it under the program's
+/// settings.
+fn look_at_both(
+    alloc: Global,
+    members: u16,
+    member: u16,
+    cuts: bool,
+    stored: &[u8],
+    second: &[u8],
+) -> Result<(), Barred>
+    requires { member < members }
+    ensures found { OnOk result (AreLookedAt member members cuts stored.now second.now) }
+    ensures barred { IfErr result (AreBarredAt member members stored.now second.now) }
+    ensures cut { IfErr result (λ why. cuts ≡ true → IsBeyondCut why) }
+{
+    look_at_half(alloc, stored, member, members, cuts)?;
+    look_at_half(alloc, second, member, members, cuts)?;
+    Ok(())
+}
+
+/// The same as the member of these settings has it.
+fn look_at_both_by(
+    alloc: Global,
+    settings: &Settings,
+    cuts: bool,
+    stored: &[u8],
+    second: &[u8],
+) -> Result<(), Barred>
+    requires { IsGood settings.now }
+    ensures found { OnOk result (AreLookedAtBy settings.now cuts stored.now second.now) }
+    ensures barred { IfErr result (AreBarredBy settings.now stored.now second.now) }
+    ensures cut { IfErr result (λ why. cuts ≡ true → IsBeyondCut why) }
+{
+    let Ok(scheme) = settings.committee.scheme(alloc, None) else {
+        return Err(Barred::Memory);
+    };
+    look_at_half_by(alloc, stored, &scheme, owner_by(settings), cuts)?;
+    look_at_half_by(alloc, second, &scheme, owner_by(settings), cuts)?;
+    Ok(())
 }
 
 /// Looks at a record's bytes, as the member of these settings has it.
@@ -162,6 +271,22 @@ pub fn stepped(alloc: Global, node: &mut Handle, events: &[u8], found: &mut Foun
     let ended = session.step(alloc, events);
     *node = Handle::of(session);
     told(ended, found)
+}
+
+/// Rewrites the node's record, where there is something to rewrite: then the view is named behind which it begins. What that asks of
+/// the host waits as behind a step.
+pub fn rewritten(alloc: Global, node: &mut Handle, found: &mut Found) -> Status
+    ensures dead { node.old.live ≢ 1 → (result ≡ Argument) × (node.new.live ≡ 0) }
+    ensures live { node.old.live ≡ 1 → node.new.live ≡ 1 }
+    ensures answers { (result ≡ Done) ⊎ ((result ≡ Memory) ⊎ ((result ≡ Argument) ⊎ ((result ≡ Device) ⊎ (result ≡ Failed)))) }
+    ensures unnamed { result ≢ Done → result ≢ Argument → found.new.named ≡ 0 }
+{
+    let Some(mut session) = node.taken(alloc) else {
+        return Status::Argument;
+    };
+    let ended = session.rewrite();
+    *node = Handle::of(session);
+    shortened(ended, found)
 }
 
 /// Puts what the host is asked at the front of the room, where it fits.
@@ -270,6 +395,25 @@ fn told(ended: Result<(), IoFault>, found: &mut Found) -> Status
     }
 }
 
+/// How a rewrite ended, and the view that is named, if the record was rewritten.
+fn shortened(ended: Result<Option<u64>, NodeFault>, found: &mut Found) -> Status
+    ensures status { result ≡ rewrite_status ended }
+    ensures place { Names found.new.named found.new.place (rewrite_place ended) }
+    ensures answers { (result ≡ Done) ⊎ ((result ≡ Memory) ⊎ ((result ≡ Device) ⊎ (result ≡ Failed))) }
+    ensures unnamed { result ≢ Done → found.new.named ≡ 0 }
+{
+    match ended {
+        Ok(view) => {
+            found.tell(0, view);
+            Status::Done
+        }
+        Err(fault) => {
+            found.tell(0, None);
+            unstepped(fault)
+        }
+    }
+}
+
 /// Why a call over events ended before them.
 fn ending(fault: IoFault) -> Status
     ensures status { result ≡ ending_status fault }
@@ -327,6 +471,7 @@ fn placeless(fault: OpenFault) -> Status
 /// Why a step failed.
 fn unstepped(fault: NodeFault) -> Status
     ensures status { result ≡ unstepped_status fault }
+    ensures answers { (result ≡ Memory) ⊎ ((result ≡ Device) ⊎ (result ≡ Failed)) }
     ensures bound { status_number result ≤ 10 }
 {
     match fault {

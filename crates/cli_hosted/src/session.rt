@@ -1,27 +1,33 @@
 //! A member's node between two calls.
 
-ghost use Rattle.std.specs.Prelude.{◌≡◌, ◌<◌, ◌++◌, ℕ, IfOk, None, Some};
+ghost use Rattle.std.specs.Prelude.{◌≡◌, ◌<◌, ◌++◌, ℕ, IfOk, None, OnErr, Some, true};
+ghost use Rattle.std.specs.Option.{option_copied};
 ghost use Rattle.cli_settings.specs.Building.{config_of};
 ghost use Rattle.cli_settings.specs.Checking.{IsGood};
+ghost use Rattle.cli_hosted.specs.HostedDisk.{disks_over, untouched};
 ghost use Rattle.cli_hosted.specs.Members.{AreLeaders, PlainReply, committee_of};
-ghost use Rattle.journal_books.specs.declared.disks.Disks.TheVariants.{One};
+ghost use Rattle.journal_books.specs.Books.{are_two, may_rewrite};
 ghost use Rattle.simplex_member.specs.declared.action.Reply.{Reply};
+ghost use Rattle.simplex_member.specs.Recorded.{kept_of};
 ghost use Rattle.simplex_member.specs.Setup.{brought_by, setup_of};
-ghost use Rattle.node_steps.specs.Keeps.{AtOwn};
+ghost use Rattle.node_record.specs.Ledger.{next_view};
+ghost use Rattle.node_steps.specs.Keeps.{AtOwn, book_of, disks_of, has_failed};
 ghost use Rattle.node_steps.specs.Opening.{IsOpenAndSettled};
+ghost use Rattle.node_steps.specs.Rewriting.{NodeIsRewritten};
 ghost use Rattle.simplex_node.specs.Running.{RunFails, RunsTo};
 ghost use Rattle.node_wire.specs.Streaming.{EndsIn, spelled};
 ghost use Rattle.types_terms.specs.Rotation.{Rotation};
 
 use crate::disk::HostedDisk;
-use crate::requests::Requests;
+use crate::requests::{File, Requests};
 use cli_settings::Settings;
+use journal_books::Disks;
 use journal_single::Disk;
 use node_steps::Node;
 use node_wire::CountedWriter;
 use simplex_cli::{config, elector, scheme};
-use simplex_member::{IoFault, OpenFault, Reply, Speaks};
-use simplex_node::{open_io, run_io};
+use simplex_member::{IoFault, NodeFault, OpenFault, Reply, Speaks};
+use simplex_node::{open_disks_io, run_io};
 use simplex_types::{AttestationList, PlainKey, PlainScheme, PlainSignature};
 use std::alloc::{AllocError, Global};
 use std::marker::Model;
@@ -33,7 +39,7 @@ use types_terms::elector::RoundRobinElector;
 use voter_rules::Floor;
 use voter_rules::config::Config;
 
-/// A member's node over a disk that a host keeps.
+/// A member's node over disks that a host keeps.
 type Hosted = Node<PlainScheme, RoundRobinElector, Sha256Digest, HostedDisk>;
 
 /// A member's node, what it asks of the host that keeps its record, and the replies that were not taken yet.
@@ -65,20 +71,22 @@ impl Model for Session {
 }
 
 impl Session {
-    /// Opens a member's node over its record at moment 0, set up as the program's; what that hands out is the first reply.
+    /// Opens a member's node over its record at moment 0, set up as the program's; what that hands out is the first reply. The record
+    /// stands in the file of these bytes, or also in a second one.
     pub(crate) fn open(
         alloc: Global,
         members: u16,
         member: u16,
         stored: &[u8],
+        second: Option<&[u8]>,
     ) -> Result<Box<Session>, OpenFault>
         requires { member < members }
     {
-        let Ok((disk, requests)) = hosted(alloc, stored) else {
+        let Ok((disks, requests)) = hosted(alloc, stored, second) else {
             return Err(OpenFault::Memory);
         };
         let mut replies = Vec::new(alloc);
-        let node = set_up(alloc, members, member, disk, &mut replies);
+        let node = set_up(alloc, members, member, disks, &mut replies);
         held(alloc, node, requests, replies)
     }
 
@@ -87,20 +95,26 @@ impl Session {
         alloc: Global,
         settings: &Settings,
         stored: &[u8],
+        second: Option<&[u8]>,
     ) -> Result<Box<Session>, OpenFault>
         requires { IsGood settings.now }
     {
-        let Ok((disk, requests)) = hosted(alloc, stored) else {
+        let Ok((disks, requests)) = hosted(alloc, stored, second) else {
             return Err(OpenFault::Memory);
         };
         let mut replies = Vec::new(alloc);
-        let node = set_up_by(alloc, settings, disk, &mut replies);
+        let node = set_up_by(alloc, settings, disks, &mut replies);
         held(alloc, node, requests, replies)
     }
 
     /// Answers events, one behind another; the replies are put behind those that were not taken yet.
     pub(crate) fn step(&mut self, alloc: Global, events: &[u8]) -> Result<(), IoFault> {
         go_on(alloc, &mut self.node, events, &mut self.replies)
+    }
+
+    /// Rewrites the record, where there is something to rewrite, and tells the view behind which it begins then.
+    pub(crate) fn rewrite(&mut self) -> Result<Option<u64>, NodeFault> {
+        shorten(&mut self.node)
     }
 
     /// What the host is asked to do.
@@ -120,12 +134,35 @@ impl Session {
     }
 }
 
-/// A disk over these bytes, and what it asks.
-fn hosted(alloc: Global, stored: &[u8]) -> Result<(HostedDisk, Requests), AllocError> {
+/// The disk over the bytes of a file, or the two over those of both, and what they ask, by one list.
+fn hosted(
+    alloc: Global,
+    stored: &[u8],
+    second: Option<&[u8]>,
+) -> Result<(Disks<HostedDisk>, Requests), AllocError>
+    ensures { IfOk result (λ r. r.0 ≡ disks_over stored.now (option_copied second.entry)) }
+{
     let requests = Requests::new(alloc)?;
+    let first = disk_over(alloc, File::First, stored, &requests)?;
+    let Some(second) = second else {
+        return Ok((Disks::One(first), requests));
+    };
+    let second = disk_over(alloc, File::Second, second, &requests)?;
+    Ok((Disks::Two(first, second), requests))
+}
+
+/// The disk over the bytes of this file, which asks by this list.
+fn disk_over(
+    alloc: Global,
+    file: File,
+    stored: &[u8],
+    requests: &Requests,
+) -> Result<HostedDisk, AllocError>
+    ensures { IfOk result (λ disk. disk ≡ untouched file stored.now) }
+{
     let shared = requests.shared()?;
     let stored = Vec::from_slice(alloc, stored)?;
-    Ok((HostedDisk::over(alloc, stored, shared), requests))
+    Ok(HostedDisk::over(alloc, file, stored, shared))
 }
 
 /// A value in a box.
@@ -158,15 +195,16 @@ fn held(
     }
 }
 
-/// The node of a member over this disk, set up as the program's, and its first reply.
+/// The node of a member over these disks, set up as the program's, and its first reply.
 fn set_up<K: Disk>(
     alloc: Global,
     members: u16,
     member: u16,
-    disk: K,
+    disks: Disks<K>,
     replies: &mut Vec<u8>,
 ) -> Result<Node<PlainScheme, RoundRobinElector, Sha256Digest, K>, OpenFault>
     requires { member < members }
+    ensures as_many { IfOk result (λ node. are_two (disks_of node) ≡ are_two disks) }
 {
     let Ok(scheme) = scheme(alloc, member, members) else {
         return Err(OpenFault::Memory);
@@ -174,14 +212,14 @@ fn set_up<K: Disk>(
     let Ok(elector) = elector(alloc, members) else {
         return Err(OpenFault::Memory);
     };
-    begin(alloc, config(), scheme, elector, disk, replies)
+    begin(alloc, config(), scheme, elector, disks, replies)
 }
 
-/// The node of a member over this disk, set up by its settings, and its first reply.
+/// The node of a member over these disks, set up by its settings, and its first reply.
 fn set_up_by<K: Disk>(
     alloc: Global,
     settings: &Settings,
-    disk: K,
+    disks: Disks<K>,
     replies: &mut Vec<u8>,
 ) -> Result<Node<PlainScheme, RoundRobinElector, Sha256Digest, K>, OpenFault>
     requires { IsGood settings.now }
@@ -193,7 +231,8 @@ fn set_up_by<K: Disk>(
         (⟦<PlainScheme as Speaks<Sha256Digest>>⟧.formats settings.now.committee.members)
         (setup_of ⟦<PlainScheme as Scheme<Sha256Digest>>⟧ ⟦<RoundRobinElector as Elector<PlainScheme, Sha256Digest>>⟧
         (config_of settings.now) (committee_of settings.now) leaders settings.now.member)
-        ⟦<PlainScheme as Speaks<Sha256Digest>>⟧.readable None (One disk) 0 node first.actions.items) }
+        ⟦<PlainScheme as Speaks<Sha256Digest>>⟧.readable None disks 0 node first.actions.items) }
+    ensures as_many { IfOk result (λ node. are_two (disks_of node) ≡ are_two disks) }
 {
     let Ok(scheme) = settings.scheme(alloc) else {
         return Err(OpenFault::Memory);
@@ -201,7 +240,7 @@ fn set_up_by<K: Disk>(
     let Ok(elector) = settings.committee.elector(alloc) else {
         return Err(OpenFault::Memory);
     };
-    begin(alloc, settings.config(), scheme, elector, disk, replies)
+    begin(alloc, settings.config(), scheme, elector, disks, replies)
 }
 
 /// Opens a member's record at moment 0, and spells what that hands out as a reply.
@@ -210,7 +249,7 @@ fn begin<S: Scheme<D> + Drop, L: Elector<S, D>, D: Digest, K: Disk>(
     config: Config<Floor<S, D>>,
     scheme: Rc<S>,
     elector: L,
-    disk: K,
+    disks: Disks<K>,
     replies: &mut Vec<u8>,
 ) -> Result<Node<S, L, D, K>, OpenFault>
     requires { L.built_for elector (S.size scheme.value) }
@@ -219,11 +258,12 @@ fn begin<S: Scheme<D> + Drop, L: Elector<S, D>, D: Digest, K: Disk>(
         ×
         (replies.new.items ≡ replies.old.items ++ spelled S.PublicKey.spelling D.spelling S.Signature.spelling S.Certificate.spelling first)
         × IsOpenAndSettled S.Scheme L.Elector K.Disk (⟦<S as Speaks<D>>⟧.formats (S.size scheme.value))
-        (setup_of S.Scheme L.Elector config scheme.value elector index) ⟦<S as Speaks<D>>⟧.readable (brought_by config.floor) (One disk) 0 node
+        (setup_of S.Scheme L.Elector config scheme.value elector index) ⟦<S as Speaks<D>>⟧.readable (brought_by config.floor) disks 0 node
         first.actions.items) }
+    ensures as_many { IfOk result (λ node. are_two (disks_of node) ≡ are_two disks) }
 {
     let mut output = CountedWriter::new(mem::replace(replies, Vec::new(alloc)));
-    let opened = open_io(alloc, config, scheme, elector, disk, 0, &mut output);
+    let opened = open_disks_io(alloc, config, scheme, elector, disks, 0, &mut output);
     *replies = output.into_inner();
     match opened {
         Ok((node, written)) => match written {
@@ -254,4 +294,25 @@ fn go_on<S: Scheme<D> + Drop, L: Elector<S, D>, D: Digest, K: Disk>(
     let ended = run_io(alloc, node, &mut input, &mut output);
     *replies = output.into_inner();
     ended
+}
+
+/// Rewrites the record, where there is something to rewrite, and tells the view behind which it begins then.
+fn shorten<S: Scheme<D> + Drop, L: Elector<S, D>, D: Digest, K: Disk>(
+    node: &mut Node<S, L, D, K>,
+) -> Result<Option<u64>, NodeFault>
+    ensures view { IfOk result (λ view. AtOwn S.Scheme L.Elector K.Disk ⟦<S as Speaks<D>>⟧.formats node.old
+        (λ f s h. view ≡ next_view (may_rewrite (book_of node.old)) (kept_of s.voter.length h))) }
+    ensures rewritten { IfOk result (λ view.
+        (floor : ℕ)
+        → view ≡ Some floor
+        → AtOwn S.Scheme L.Elector K.Disk ⟦<S as Speaks<D>>⟧.formats node.old
+        (λ f s h. NodeIsRewritten S.Scheme L.Elector K.Disk f s node.new h floor)) }
+    ensures none { IfOk result (λ view. view ≡ None → node.new ≡ node.old) }
+    ensures failed { OnErr result (has_failed node.new ≡ true) }
+{
+    match node.rewrite() {
+        Ok(Some(view)) => Ok(Some(view.get())),
+        Ok(None) => Ok(None),
+        Err(fault) => Err(fault),
+    }
 }

@@ -106,18 +106,43 @@ pub fn look_over_half_by<K: Disk>(
     ensures no_fault_of_others { IfErr result (λ why. why ≢ barred.Device → K.failed disk.new ≡ K.failed disk.old) }
 {
     match read_disk(alloc, disk) {
-        Ok(bytes) => look_at_half(alloc, &bytes, scheme, owner, cuts),
+        Ok(bytes) => look_at_half_by(alloc, &bytes, scheme, owner, cuts),
         Err(JournalFault::Device) => Err(Barred::Device),
         Err(_) => Err(Barred::Memory),
     }
 }
 
-/// Looks at the bytes of one of two disks, as its owner has it in the committee of this scheme.
+/// Looks at the bytes of one of two disks, as the member of this index, of so many, has it under the program's settings. Where `cuts`, the
+/// last gate of its record and what stands behind it may be anything.
 ///
 /// # Errors
 ///
 /// Each [`Barred`] but `Device`.
-fn look_at_half(
+pub fn look_at_half(
+    alloc: Global,
+    bytes: &[u8],
+    index: u16,
+    count: u16,
+    cuts: bool,
+) -> Result<Found, Barred>
+    requires { index < count }
+    ensures found { IfOk result (IsFoundOnHalf (codes "simplex") count (owner_of index) cuts bytes.now) }
+    ensures barred { IfErr result (IsBarredOnHalf (codes "simplex") count (owner_of index) bytes.now) }
+    ensures cut { IfErr result (λ why. cuts ≡ true → IsBeyondCut why) }
+    ensures not_device { IfErr result (λ why. why ≢ barred.Device) }
+{
+    match scheme_of(alloc, count) {
+        Ok(scheme) => look_at_half_by(alloc, bytes, &scheme, owner_at(index), cuts),
+        Err(_) => Err(Barred::Memory),
+    }
+}
+
+/// The same, as its owner has it in the committee of this scheme.
+///
+/// # Errors
+///
+/// Those of [`look_at_half`].
+pub fn look_at_half_by(
     alloc: Global,
     bytes: &[u8],
     scheme: &PlainScheme,

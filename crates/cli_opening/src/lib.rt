@@ -7,7 +7,7 @@ mod owning;
 mod reaching;
 mod saying;
 
-pub use halves::{look_over_half, look_over_half_by};
+pub use halves::{look_at_half, look_at_half_by, look_over_half, look_over_half_by};
 pub use looking::{Barred, Found, look_at, look_at_by, look_over, look_over_by};
 pub use owning::owner_by;
 pub use saying::{HELP, VERSION, say_barred, say_barred_by, say_found};

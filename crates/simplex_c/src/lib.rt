@@ -15,9 +15,13 @@ mod with_settings;
 pub use attesting::voumlis_proved_attestations;
 pub use light::{CertifiedNumbers, voumlis_proved_certifies, voumlis_proved_finalized_in};
 pub use node::{
-    voumlis_proved_node_close, voumlis_proved_node_open, voumlis_proved_node_replies,
-    voumlis_proved_node_requests, voumlis_proved_node_step, voumlis_proved_node_views,
+    voumlis_proved_node_close, voumlis_proved_node_open, voumlis_proved_node_open_pair,
+    voumlis_proved_node_replies, voumlis_proved_node_requests, voumlis_proved_node_rewrite,
+    voumlis_proved_node_step, voumlis_proved_node_views,
 };
 pub use questions::{voumlis_proved_audit, voumlis_proved_decode, voumlis_proved_first_refused};
 pub use settings::SettingsNumbers;
-pub use with_settings::{voumlis_proved_node_open_with, voumlis_proved_settings_check};
+pub use with_settings::{
+    voumlis_proved_node_open_pair_with, voumlis_proved_node_open_with,
+    voumlis_proved_settings_check,
+};

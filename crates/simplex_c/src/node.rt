@@ -2,11 +2,12 @@
 
 ghost use Rattle.std.specs.Prelude.{◌≡◌, ◌≢◌, ◌⊎◌, ◌≤◌};
 ghost use Rattle.journal_look.specs.Look.{BeginsLikeOne};
+ghost use Rattle.cli_hosted.specs.Pairs.{AreLookedAt, AreTornAt, BeginsAsNone};
 ghost use Rattle.cli_hosted.specs.Serving.{IsLookedAt, IsTornAt, asks};
 
 use cli_hosted::{
-    Found, Handle, Status, Views, closed, opened, replies_taken, requests_taken, stepped,
-    views_told,
+    Found, Handle, Status, Views, closed, opened, opened_pair, replies_taken, requests_taken,
+    rewritten, stepped, views_told,
 };
 use std::alloc::Global;
 
@@ -46,6 +47,49 @@ pub extern "C" fn voumlis_proved_node_open(
     opened(alloc, members, member, cuts != 0, stored, node, found).number()
 }
 
+/// Opens a member's node at moment 0 over the bytes of the two files of its record, which the host keeps; what that hands out waits as
+/// the first reply. A record of one file is opened beside an empty second one.
+///
+/// Answers as `voumlis_proved_node_open`, of the first file that isn't one of a record of this member; each is looked at, and places in
+/// bytes are counted from its first.
+#[unsafe(no_mangle)]
+pub extern "C" fn voumlis_proved_node_open_pair(
+    alloc: Global,
+    members: u16,
+    member: u16,
+    cuts: u32,
+    stored: &[u8],
+    second: &[u8],
+    node: &mut Handle,
+    found: &mut Found,
+) -> u32
+    ensures stranger { members ≤ member → result ≡ 2 }
+    ensures occupied { node.old.live ≢ 0 → result ≡ 2 }
+    ensures opened { result ≡ 0 → node.new.live ≡ 1 }
+    ensures unopened { result ≢ 0 → node.new ≡ node.old }
+    ensures looked { result ≡ 0 → AreLookedAt member members (asks cuts) stored.now second.now }
+    ensures torn { result ≡ 11 → (cuts ≡ 0) × AreTornAt member members stored.now second.now found.new.place }
+    ensures no_record { result ≡ 12 → BeginsAsNone stored.now ⊎ BeginsAsNone second.now }
+    ensures named { (result ≡ 7) ⊎ ((result ≡ 8) ⊎ (result ≡ 11)) → found.new.named ≡ 1 }
+    ensures unnamed { (result ≡ 0) ⊎ ((result ≡ 9) ⊎ (result ≡ 12)) → found.new.named ≡ 0 }
+    ensures statuses { result ≤ 12 }
+{
+    if member >= members || node.live != 0 {
+        return Status::Argument.number();
+    }
+    opened_pair(
+        alloc,
+        members,
+        member,
+        cuts != 0,
+        stored,
+        second,
+        node,
+        found,
+    )
+    .number()
+}
+
 /// Has a node answer events, one behind another; the replies wait behind those that were not taken yet.
 ///
 /// Answers 0 where the bytes ended between two events; 1 where memory ran out; 2 where no node is open; 5 with the place of the
@@ -64,6 +108,24 @@ pub extern "C" fn voumlis_proved_node_step(
     ensures statuses { result ≤ 10 }
 {
     stepped(alloc, node, events, found).number()
+}
+
+/// Rewrites the record of a node, so that it begins with the last finalization; what that asks of the host waits as behind a step.
+///
+/// Answers 0, with the view of that finalization as the place, or with none where nothing was to be rewritten, as over one file; 1 where
+/// memory ran out; 2 where no node is open; 9 where the host could not be asked; and 10 where a step failed before.
+#[unsafe(no_mangle)]
+pub extern "C" fn voumlis_proved_node_rewrite(
+    alloc: Global,
+    node: &mut Handle,
+    found: &mut Found,
+) -> u32
+    ensures dead { node.old.live ≢ 1 → (result ≡ 2) × (node.new.live ≡ 0) }
+    ensures live { node.old.live ≡ 1 → node.new.live ≡ 1 }
+    ensures unnamed { result ≢ 0 → result ≢ 2 → found.new.named ≡ 0 }
+    ensures statuses { (result ≤ 2) ⊎ ((result ≡ 9) ⊎ (result ≡ 10)) }
+{
+    rewritten(alloc, node, found).number()
 }
 
 /// Takes what the host is asked to do with the record, and tells its size.

@@ -3,13 +3,14 @@
 ghost use Rattle.std.specs.Prelude.{◌≡◌, ◌≢◌, ◌⊎◌, ◌≤◌, false};
 ghost use Rattle.journal_look.specs.Look.{BeginsLikeOne};
 ghost use Rattle.cli_settings.specs.declared.setting.Settings.{Settings as Setting};
+ghost use Rattle.cli_hosted.specs.Pairs.{AreLookedAtBy, AreTornBy, BeginsAsNone};
 ghost use Rattle.cli_hosted.specs.Serving.{IsLookedAtBy, IsTornBy, asks};
 ghost use Rattle.cli_hosted.specs.Statuses.{status_number};
 ghost use Rattle.cli_hosted.specs.declared.status.Status.TheVariants.{Argument, Device, Done, Foreign, Memory, NoRecord, Refused, Settings as Faulty, Torn, Version};
 ghost use Rattle.simplex_c.specs.Settings.{HasFault, HasForm, SaysGood, SaysNothing};
 
 use crate::settings::{SettingsNumbers, settings_of, tell_unfit};
-use cli_hosted::{Found, Handle, Status, opened_by};
+use cli_hosted::{Found, Handle, Status, opened_by, opened_pair_by};
 use std::alloc::Global;
 
 /// Whether a node can be opened with these settings.
@@ -64,6 +65,37 @@ fn opened(
 {
     match settings_of(alloc, numbers, base, seed) {
         Ok(settings) => opened_by(alloc, &settings, cuts, stored, node, found),
+        Err(why) => tell_unfit(why, found),
+    }
+}
+
+/// The same over two files.
+#[tactic(auto, using(crate::proofs::Unfit::fault_by, crate::proofs::Unfit::form_by, crate::proofs::Unfit::never_done, crate::proofs::Unfit::no_place_by, crate::proofs::Unfit::nothing_by, crate::proofs::Unfit::place_by))]
+fn opened_both(
+    alloc: Global,
+    numbers: &SettingsNumbers,
+    base: &[u8],
+    seed: &[u8],
+    cuts: bool,
+    stored: &[u8],
+    second: &[u8],
+    node: &mut Handle,
+    found: &mut Found,
+) -> Status
+    ensures opened { result ≡ Done → node.new.live ≡ 1 }
+    ensures unopened { result ≢ Done → node.new ≡ node.old }
+    ensures looked { result ≡ Done → (s : Setting) × SaysGood numbers.now base.now seed.now s × AreLookedAtBy s cuts stored.now second.now }
+    ensures fault { result ≡ Faulty → HasFault numbers.now base.now seed.now found.new.place }
+    ensures form { result ≡ Version → ¬ HasForm numbers.now }
+    ensures torn { result ≡ Torn
+        → (cuts ≡ false) × ((s : Setting) × SaysGood numbers.now base.now seed.now s × AreTornBy s stored.now second.now found.new.place) }
+    ensures no_record { result ≡ NoRecord → BeginsAsNone stored.now ⊎ BeginsAsNone second.now }
+    ensures named { (result ≡ Refused) ⊎ ((result ≡ Foreign) ⊎ ((result ≡ Torn) ⊎ (result ≡ Faulty))) → found.new.named ≡ 1 }
+    ensures unnamed { (result ≡ Done) ⊎ ((result ≡ Device) ⊎ ((result ≡ NoRecord) ⊎ (result ≡ Version))) → found.new.named ≡ 0 }
+    ensures bound { status_number result ≤ 14 }
+{
+    match settings_of(alloc, numbers, base, seed) {
+        Ok(settings) => opened_pair_by(alloc, &settings, cuts, stored, second, node, found),
         Err(why) => tell_unfit(why, found),
     }
 }
@@ -124,4 +156,51 @@ pub extern "C" fn voumlis_proved_node_open_with(
         return Status::Argument.number();
     }
     opened(alloc, numbers, base, seed, cuts != 0, stored, node, found).number()
+}
+
+/// Opens a member's node with these settings at moment 0 over the bytes of the two files of its record, which the host keeps; what that
+/// hands out waits as the first reply.
+///
+/// Answers as `voumlis_proved_node_open_pair` and `voumlis_proved_settings_check`.
+#[unsafe(no_mangle)]
+pub extern "C" fn voumlis_proved_node_open_pair_with(
+    alloc: Global,
+    numbers: &SettingsNumbers,
+    base: &[u8],
+    seed: &[u8],
+    cuts: u32,
+    stored: &[u8],
+    second: &[u8],
+    node: &mut Handle,
+    found: &mut Found,
+) -> u32
+    ensures occupied { node.old.live ≢ 0 → result ≡ 2 }
+    ensures opened { result ≡ 0 → node.new.live ≡ 1 }
+    ensures unopened { result ≢ 0 → node.new ≡ node.old }
+    ensures looked { result ≡ 0
+        → (s : Setting) × SaysGood numbers.now base.now seed.now s × AreLookedAtBy s (asks cuts) stored.now second.now }
+    ensures fault { result ≡ 13 → HasFault numbers.now base.now seed.now found.new.place }
+    ensures form { result ≡ 14 → ¬ HasForm numbers.now }
+    ensures torn { result ≡ 11
+        → (cuts ≡ 0) × ((s : Setting) × SaysGood numbers.now base.now seed.now s × AreTornBy s stored.now second.now found.new.place) }
+    ensures no_record { result ≡ 12 → BeginsAsNone stored.now ⊎ BeginsAsNone second.now }
+    ensures named { (result ≡ 7) ⊎ ((result ≡ 8) ⊎ ((result ≡ 11) ⊎ (result ≡ 13))) → found.new.named ≡ 1 }
+    ensures unnamed { (result ≡ 0) ⊎ ((result ≡ 9) ⊎ ((result ≡ 12) ⊎ (result ≡ 14))) → found.new.named ≡ 0 }
+    ensures statuses { result ≤ 14 }
+{
+    if node.live > 0 {
+        return Status::Argument.number();
+    }
+    opened_both(
+        alloc,
+        numbers,
+        base,
+        seed,
+        cuts != 0,
+        stored,
+        second,
+        node,
+        found,
+    )
+    .number()
 }

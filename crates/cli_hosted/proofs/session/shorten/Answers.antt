@@ -1,0 +1,6 @@
+use Rattle.std.proofs.Common.{◌∙◌, ap, sym, ℕ, Some}
+use Rattle.cli_hosted.proofs.session.shorten.Goals as goal
+
+pub returns-in-Ok-Some-clause-rewritten : goal.returns-in-Ok-Some-clause-rewritten
+returns-in-Ok-Some-clause-rewritten g c = λ floor is s h keeps.
+    c.in-Ok-Some.ensures.rewritten floor (c.in-Ok-Some.field-0-is ∙ ap (λ (view : ℕ). Some view) (sym c.get.ensures.value) ∙ is) s h keeps

@@ -1,0 +1,9 @@
+use Rattle.std.proofs.Common.{◌∙◌, sym}
+use Rattle.simplex_c.proofs.Numbers.{done_by, not_asked, torn_by}
+use Rattle.simplex_c.proofs.with_settings.voumlis_proved_node_open_pair_with.Goals as goal
+
+pub returns-clause-looked : goal.returns-clause-looked
+returns-clause-looked c = λ is. c.opened_both.ensures.looked (done_by c.opened_both.result (sym c.number-2.ensures ∙ is))
+
+pub returns-clause-torn : goal.returns-clause-torn
+returns-clause-torn c = λ is. let torn = c.opened_both.ensures.torn (torn_by c.opened_both.result (sym c.number-2.ensures ∙ is)) in (not_asked c.args.cuts torn.0, torn.1)
