@@ -1,5 +1,5 @@
 -- How a call answers that leaves two files as they are.
-use Rattle.std.proofs.Common.{◌≡◌, ◌≢◌, ◌⊎◌, inl, inr, ⊎_elim, ℕ, List, Bool, true, false, drop, refl, sym, ap, subst}
+use Rattle.std.proofs.Common.{◌≡◌, ◌⊎◌, inl, inr, ⊎_elim, ℕ, List, Bool, true, false, drop, refl, sym, ap, subst}
 use Rattle.journal_look.specs.Look.{BeginsLikeOne}
 use Rattle.simplex_journal.specs.Generation.{IsGeneration, IsOf}
 use Rattle.simplex_journal.specs.GenerationLaws.{number_any}

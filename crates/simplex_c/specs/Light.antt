@@ -1,6 +1,5 @@
 -- What is told of certificates.
 use Rattle.std.specs.Prelude.{◌≡◌, ℕ, List, replicate, Option, Some, None}
-use Rattle.types_codec.specs.declared.codec.CodecError.{CodecError}
 use Rattle.types_core.specs.declared.position.Round.{Round}
 use Rattle.types_core.specs.declared.proposal.Proposal.{Proposal}
 use Rattle.cli_settings.specs.declared.setting.Committee.{Committee}

@@ -1,5 +1,5 @@
 -- What a host's numbers say of how a member is set up.
-use Rattle.std.specs.Prelude.{◌≡◌, ◌≢◌, ℕ, List, Bool, true, false, Option, None, Some, ⊤}
+use Rattle.std.specs.Prelude.{◌≡◌, ℕ, List, Bool, true, false, Option, None, Some, ⊤}
 use Rattle.voter_rules.specs.declared.config.ForwardPolicy.{ForwardPolicy}
 use Rattle.voter_rules.specs.declared.config.ForwardPolicy.TheVariants as forward
 use Rattle.voter_rules.specs.declared.config.SkipBudget.TheVariants as budget
