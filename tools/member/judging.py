@@ -39,7 +39,7 @@ says something to readers.
 """
 from . import words
 from .acts import point_of
-from .codec import Reader, Unreadable, artifact_bytes, event_bytes, reply_bytes, whole
+from .codec import ARTIFACT_TAGS, FINALIZATION, Reader, Unreadable, artifact_bytes, event_bytes, reply_bytes, whole
 from .disks import Disks, bytes_of_word
 from .member import Disagreement, may_be_left, opening, read_record, rewriting, step
 from .record import bodies, first_refused, kept_record, spelled_record
@@ -215,6 +215,9 @@ class Case:
         word, _, payload = text.partition(" ")
         if word == "genesis":
             self.setup = self.setup.on_genesis(words.payload_of(payload))
+        elif word == "spelled":
+            scheme, tagged = self.setup.scheme, bytes([ARTIFACT_TAGS.index(FINALIZATION)]) + bytes.fromhex(payload)
+            self.setup = self.setup.on_floor(whole(tagged, scheme.signature_size, scheme.members, Reader.artifact))
         else:
             self.setup = self.setup.on_floor(words.artifact_of(text, self.setup.scheme))
 
