@@ -1,6 +1,6 @@
 -- What a set has behind one element more, or without its first ones, beside what a list has.
 use Rattle.std.proofs.Common.{◌≡◌, ◌≢◌, ◌==◌, ◌↔◌, ◌⊎◌, ◌≤◌, ◌<◌, ◌+◌, ◌-◌, ◌^◌, ◌∙◌, inl, inr, ⊎_elim, ℕ, min, Bool, true, false, cond, List, ◌∷◌, Option, Some, sym, ap, subst, arith}
-use Rattle.std.specs.Prelude.{Contains, IsTrue, IfOk, OnOk, Result, Ok, Err, if◌then◌else◌}
+use Rattle.std.specs.Prelude.{Contains, IsTrue, OnOk, Result, Ok, Err, if◌then◌else◌}
 use Rattle.std.specs.Ordering.{is_eq, nat_cmp}
 use Rattle.std.proofs.lemmas.Bool.{cases_lt}
 use Rattle.std.proofs.lemmas.Bool.Decides.{nat_tests}
@@ -37,18 +37,10 @@ taken_back {X} k a C Old Mid New is_new more fewer told = (
   λ c. let old = told.1 c in fewer.1 (more.1 (inl old), λ is. is_new (subst Old is old)),
 )
 
--- where something holds of it, it is new to the set where it is new to the list
-pub new_to : (P Q Old New : Type 0) → P → New ↔ (¬ Old) → Old ↔ (P × Q) → New ↔ (¬ Q)
-new_to P Q Old New holds new told = (λ is there. new.0 is (told.1 (holds, there)), λ none. new.1 (λ old. none (told.0 old).1))
-
 -- what follows where a call succeeded
 pub on_ok-map : {T E P Q : Type 0} (r : Result T E) → (P → Q) → OnOk r P → OnOk r Q
 on_ok-map (Ok x) f p = f p
 on_ok-map (Err e) f p = p
-
-pub if_ok_then : {T E : Type 0} {P Q : T → Type 0} (r : Result T E) → IfOk r P → ((x : T) → P x → Q x) → IfOk r Q
-if_ok_then (Ok x) p f = f x p
-if_ok_then (Err e) p f = p
 
 -- without those up to a number
 pub left_above : (low last u : ℕ) (old new : Bool) (C : Type 0) → low ≤ last → (u ≤ last → ¬ IsTrue new) → (last < u → new ≡ old) → IsTrue old ↔ ((low < u) × C) → IsTrue new ↔ ((last < u) × C)

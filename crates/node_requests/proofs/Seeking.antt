@@ -1,8 +1,7 @@
 -- What asking for views leaves as it was, and one view more that is asked for.
-use Rattle.std.proofs.Common.{◌≡◌, ◌≢◌, ◌⊎◌, ◌<◌, ◌∷◌, ◌++◌, ◌∙◌, [], inl, inr, ⊎_elim, ℕ, Bool, true, false, List, length, Option, Some, None, refl, sym, ap, subst, append_assoc, arith}
-use Rattle.std.specs.Prelude.{All, Contains, IfSome, IsTrue, ◌↔◌, ◌&&◌, if◌then◌else◌}
-use Rattle.std.proofs.lemmas.Bool.{cases_eq, false≢true}
-use Rattle.std.proofs.lemmas.Option.{none-some, same_Some}
+use Rattle.std.proofs.Common.{◌≡◌, ◌≢◌, ◌⊎◌, ◌<◌, ◌∷◌, ◌++◌, ◌∙◌, [], inl, inr, ⊎_elim, ℕ, Bool, true, false, List, length, Option, None, refl, sym, ap, subst, append_assoc, arith}
+use Rattle.std.specs.Prelude.{All, Contains, IfSome, ◌&&◌, if◌then◌else◌}
+use Rattle.std.proofs.lemmas.Bool.{false≢true}
 use Rattle.std.proofs.lemmas.List.Elements.{All-head, All-nil, All-push, All-tail}
 use Rattle.types_quorum.specs.Counting.{Contains-cases, Contains-head, Contains-nil, Contains-rest}
 use Rattle.types_core.specs.declared.scheme.Scheme.{Ghosts}
@@ -11,8 +10,6 @@ use Rattle.voter_history.specs.Known.{known}
 use Rattle.voter_rules.specs.Requests.{CertificateIsWanted}
 use Rattle.simplex_resolver.specs.declared.ask.Ask.{Ask}
 use Rattle.simplex_resolver.specs.declared.ask.Kind as repair
-use Rattle.simplex_resolver.specs.declared.ask.Until.{Until}
-use Rattle.simplex_resolver.specs.declared.ask.Until.TheVariants as until
 use Rattle.simplex_resolver.specs.declared.ask.Kind.TheVariants as kind
 use Rattle.simplex_resolver.specs.Answers.{is_settled}
 use Rattle.simplex_resolver.specs.RepairHistory as repaired
@@ -253,56 +250,3 @@ module _ {S D P G C : Type 0} (g : Ghosts S D P G C) (f : Formats S D P G C) (s 
 pub unsettled_above : (views : ℕ) (h : List repaired.Item) (view : ℕ) (what : repair.Kind) → is_settled views h view what ≡ false → repaired.finalized h < view
 unsettled_above views h view kind.Nullification is = grind arith
 unsettled_above views h view kind.Notarization is = grind arith
-
-one_kind_or_not : (a b : repair.Kind) → (a ≡ b) ⊎ (a ≡ b → ⊥)
-one_kind_or_not kind.Nullification kind.Nullification = inl refl
-one_kind_or_not kind.Nullification kind.Notarization = inr (λ is. cc is)
-one_kind_or_not kind.Notarization kind.Nullification = inr (λ is. cc is)
-one_kind_or_not kind.Notarization kind.Notarization = inl refl
-
-one_until_or_not : (a b : Until) → (a ≡ b) ⊎ (a ≡ b → ⊥)
-one_until_or_not until.Floor until.Floor = inl refl
-one_until_or_not until.Floor until.Finalization = inr (λ is. cc is)
-one_until_or_not until.Finalization until.Floor = inr (λ is. cc is)
-one_until_or_not until.Finalization until.Finalization = inl refl
-
-one_target_or_not : (a b : Option ℕ) → (a ≡ b) ⊎ (a ≡ b → ⊥)
-one_target_or_not None None = inl refl
-one_target_or_not None (Some j) = inr (λ is. none-some j is)
-one_target_or_not (Some i) None = inr (λ is. none-some i (sym is))
-one_target_or_not (Some i) (Some j) = ⊎_elim (λ same. inl (ap Some same)) (λ other. inr (λ is. other (same_Some i j is))) (cases_eq i j)
-
--- two asks are one or not
-one_ask_or_not : (a b : Asked) → (a ≡ b) ⊎ (a ≡ b → ⊥)
-one_ask_or_not a b = ⊎_elim
-    (λ view. ⊎_elim
-    (λ what. ⊎_elim
-    (λ until. ⊎_elim
-    (λ to. inl (
-    ap (λ (x : ℕ). record { view = x; ask = a.ask; to = a.to }) view
-    ∙ (ap (λ (x : repair.Kind). record { view = b.view; ask = record { kind = x; until = a.ask.until }; to = a.to }) what
-    ∙ (ap (λ (x : Until). record { view = b.view; ask = record { kind = b.ask.kind; until = x }; to = a.to }) until
-    ∙ ap (λ (x : Option ℕ). record { view = b.view; ask = b.ask; to = x }) to))))
-    (λ other. inr (λ is. other (ap (λ (x : Asked). x.to) is)))
-    (one_target_or_not a.to b.to))
-    (λ other. inr (λ is. other (ap (λ (x : Asked). x.ask.until) is)))
-    (one_until_or_not a.ask.until b.ask.until))
-    (λ other. inr (λ is. other (ap (λ (x : Asked). x.ask.kind) is)))
-    (one_kind_or_not a.ask.kind b.ask.kind))
-    (λ other. inr (λ is. other (ap (λ (x : Asked). x.view) is)))
-    (cases_eq a.view b.view)
-
--- an ask is among these or not
-pub among_or_not : (xs : List Asked) (a : Asked) → Contains xs a ⊎ (Contains xs a → ⊥)
-among_or_not [] a = inr (λ there. Contains-nil a there)
-among_or_not (x ∷ xs) a = ⊎_elim
-    (λ same. inl (subst (λ (z : Asked). Contains (x ∷ xs) z) same (Contains-head x xs)))
-    (λ other. ⊎_elim
-    (λ there. inl (Contains-rest x xs a there))
-    (λ never. inr (λ there. ⊎_elim other never (Contains-cases x xs a there)))
-    (among_or_not xs a))
-    (one_ask_or_not x a)
-
--- what is not new was there
-pub known_before : (xs : List Asked) (a : Asked) (is_new : Bool) → is_new ≡ false → IsTrue is_new ↔ (¬ Contains xs a) → Contains xs a
-known_before xs a is_new old new = ⊎_elim (λ there. there) (λ never. absurd (false≢true (sym old ∙ new.1 never))) (among_or_not xs a)
