@@ -1,14 +1,13 @@
-use Rattle.std.proofs.Common.{List, ap, sym, subst}
+use Rattle.std.proofs.Common.{List, sym, subst}
 use Rattle.std.specs.Prelude.{Contains}
-use Rattle.std.specs.Map.Iter.{deref}
 use Rattle.std.proofs.lemmas.Map.Iter.{iter_end}
 use Rattle.simplex_member.specs.declared.asked.Asked.{Asked}
-use Rattle.node_record.proofs.Pending.{AreKept, among_keys, kept_more, kept_no_more, none_kept, stands, stands_not}
+use Rattle.node_record.proofs.Pending.{among_keys, kept_more, kept_no_more, none_kept, stands, stands_not}
 use Rattle.node_record.proofs.tables.pending_of.Goals as goal
 use Rattle.node_record.proofs.tables.pending_of.Goals.{then-eq+in_ok-push, else-eq}
 
 pub loop-asked-init : goal.loop-asked-init
-loop-asked-init c = none_kept
+loop-asked-init c = rw c.new-pending.ensures.items none_kept
 
 pub loop-asked-preserved : goal.loop-asked-preserved
 loop-asked-preserved c = elim c.if-eq.branch [
