@@ -1,5 +1,6 @@
 use Rattle.std.proofs.Common.{List, sym, subst}
 use Rattle.std.specs.Prelude.{Contains}
+use Rattle.std.specs.Map.Iter.{deref}
 use Rattle.std.proofs.lemmas.Map.Iter.{iter_end}
 use Rattle.simplex_member.specs.declared.asked.Asked.{Asked}
 use Rattle.node_record.proofs.Pending.{among_keys, kept_more, kept_no_more, none_kept, stands, stands_not}
