@@ -1,7 +1,7 @@
 //! The files of a record, each locked against every other node.
 
 use crate::requests::{Half, Request, carry_out};
-use std::fs::{File, OpenOptions, TryLockError};
+use std::fs::{self, File, OpenOptions, TryLockError};
 use std::io::{Error, ErrorKind, Read};
 use std::os::unix::fs::FileExt;
 use std::path::{Path, PathBuf};
@@ -57,8 +57,18 @@ fn stored(mut file: &File) -> Result<Vec<u8>, Error> {
 }
 
 impl Files {
-    /// The file of the record at this path, made where there is none.
+    /// The file of the record at this path, made where there is none. A file beside which the second of two holds something is refused:
+    /// votes may stand in that one, and the bytes of the first don't tell.
     pub(crate) fn one(record: &Path) -> Result<Files, Error> {
+        let path = second_path(record);
+        match fs::metadata(&path) {
+            Ok(beside) if beside.len() > 0 => {
+                let said = format!("the record stands in {} too", path.display());
+                return Err(Error::new(ErrorKind::AlreadyExists, said));
+            }
+            Err(error) if error.kind() != ErrorKind::NotFound => return Err(error),
+            _ => {}
+        }
         let (first, second) = (made(record)?, Second::Never);
         Ok(Files { first, second })
     }

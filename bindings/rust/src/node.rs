@@ -109,8 +109,9 @@ impl Node {
     /// # Errors
     ///
     /// [`ErrorKind::InvalidInput`] that holds the [`SettingsError`], where no node can be opened with the settings: then no file was
-    /// touched; those of the file, of which [`ErrorKind::WouldBlock`] says that another node has it; and one that holds the
-    /// [`Ending`] as text, where the record was not opened.
+    /// touched; those of the file, of which [`ErrorKind::WouldBlock`] says that another node has it; [`ErrorKind::AlreadyExists`] where
+    /// the record stands in a second file too, which holds something: then it is opened as [`Node::open_pair`] does; and one that holds
+    /// the [`Ending`] as text, where the record was not opened.
     pub fn open_with(record: &Path, settings: &Settings) -> Result<(Node, Reply), Error> {
         Node::open_over(record, Files::one, settings, false)
     }

@@ -148,11 +148,29 @@ fn a_record_that_is_rewritten_is_shorter_and_goes_on() {
     assert_eq!(alone.node.close(), Ending::Closed);
     // By now neither is a record by itself.
     let found = stored(&record);
-    for one in [&record, &second_path(&record)] {
+    let copied = place("rewritten-alone");
+    fs::copy(&record, &copied).unwrap();
+    for one in [&copied, &second_path(&record)] {
         let error = Node::open(one, 0, 1).unwrap_err();
         assert_eq!(error.to_string(), format!("{:?}", Ending::NoRecord));
     }
     assert_eq!(stored(&record), found);
+}
+
+#[test]
+fn the_first_of_two_files_is_not_opened_alone() {
+    let record = pair("first-alone");
+    let mut alone = Alone::open(&record);
+    alone.reach(8);
+    // Behind one rewrite the first file is still the record from before, by its bytes.
+    alone.node.rewrite().unwrap().unwrap();
+    assert_eq!(alone.node.close(), Ending::Closed);
+    let found = stored(&record);
+    for opened in [Node::open(&record, 0, 1), Node::open_cutting(&record, 0, 1)] {
+        assert_eq!(opened.unwrap_err().kind(), ErrorKind::AlreadyExists);
+    }
+    assert_eq!(stored(&record), found);
+    assert_eq!(Alone::open(&record).node.close(), Ending::Closed);
 }
 
 #[test]
