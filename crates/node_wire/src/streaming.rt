@@ -1,6 +1,6 @@
 //! What steps over events, over streams.
 
-ghost use Rattle.std.specs.Prelude.{◌≡◌, ◌≢◌, List, Option, false, true, Err, Ok};
+ghost use Rattle.std.specs.Prelude.{◌≡◌, ◌≢◌, ℕ, List, Option, false, true, Err, Ok};
 ghost use Rattle.journal_single.specs.Disk.{counted};
 ghost use Rattle.simplex_member.specs.declared.action.Reply.{Reply};
 ghost use Rattle.simplex_member.specs.declared.event.Event.{Event};
