@@ -1,11 +1,11 @@
 //! What steps over events, over streams.
 
-ghost use Rattle.std.specs.Prelude.{◌≡◌, ◌≢◌, ℕ, List, Option, false, true, Err, Ok};
+ghost use Rattle.std.specs.Prelude.{◌≡◌, ◌≢◌, ◌<◌, ◌≤◌, ◌^◌, ℕ, List, Option, false, true, Err, Ok};
 ghost use Rattle.journal_single.specs.Disk.{counted};
 ghost use Rattle.simplex_member.specs.declared.action.Reply.{Reply};
 ghost use Rattle.simplex_member.specs.declared.event.Event.{Event};
 ghost use Rattle.simplex_member.specs.declared.fault.IoFault.TheVariants as fault;
-ghost use Rattle.node_wire.specs.declared.stretch.Stretch.TheVariants.{Ended, Paused};
+ghost use Rattle.node_wire.specs.declared.stretch.Stretch.TheVariants.{Paused};
 ghost use Rattle.node_wire.specs.Amid.{StandsBehind, StepsOver, StopsIn};
 ghost use Rattle.node_wire.specs.Stepper.{Answer, AnswerBefore, AnswersNone, Behind, FailsBehind};
 ghost use Rattle.node_wire.specs.Stream.{left_of};
@@ -58,8 +58,8 @@ pub fn answer_stream<
     }
 }
 
-/// Reads events from the reader, behind those that were taken of it before, until it ends between two or is to pause before one, and
-/// answers each on the writer before the next is read: then another call goes on there.
+/// Reads events from the reader, behind those that were taken of it before, until it ends between two or is to pause behind one, and
+/// answers each on the writer before the next is read. Behind a pause another call goes on: nothing that was read is lost.
 ///
 /// # Errors
 ///
@@ -92,9 +92,9 @@ pub fn answer_some<
     ensures steps { StepsOver D.fits D.spelling (Answer T.steps node.old node.new) (AnswerBefore T.steps node.old node.new) result
         (left_of input.old (R.remaining reader.old)) }
 
-    // It pauses where it is to, and nowhere else.
+    // It pauses where it is to, behind an event.
     ensures paused { result ≡ Ok Paused → P.tells pause.now node.new true }
-    ensures ended { result ≡ Ok Ended → P.tells pause.now node.new false }
+    ensures goes_on { result ≡ Ok Paused → (input.old.taken < input.new.taken) × (input.new.taken ≤ 2 ^ 32) }
     ensures untouched { AnswersNone T.steps node.old → writer.new ≡ writer.old }
 
     // Reading and writing failed exactly where that is told, and what was written is flushed.
@@ -104,9 +104,6 @@ pub fn answer_some<
     ensures flushed { result ≢ Err fault.Write → W.is_flushed writer.old → W.is_flushed writer.new }
 {
     while !input.is_spent() {
-        if pause.is_due(node) {
-            return Ok(Stretch::Paused);
-        }
         let found = match input.next_event(alloc, reader, LARGEST) {
             Ok(found) => found,
             Err(fault) => return Err(fault),
@@ -117,6 +114,9 @@ pub fn answer_some<
         match answer::<T, S, D, N, W>(alloc, node, event, writer) {
             Ok(()) => {}
             Err(fault) => return Err(fault),
+        }
+        if pause.is_due(node) {
+            return Ok(Stretch::Paused);
         }
     }
     Err(IoFault::Read)

@@ -1,6 +1,5 @@
 -- What a node over streams comes to, by what its steps come to.
-use Rattle.std.proofs.lemmas.Bool.{cases_lt}
-use Rattle.std.proofs.Common.{◌≡◌, ◌≢◌, ◌≤◌, ◌<◌, inl, inr, ◌∙◌, ℕ, List, Option, true, sym, ap}
+use Rattle.std.proofs.Common.{◌≡◌, ◌≢◌, ◌∙◌, ℕ, List, Option, true, sym, ap}
 use Rattle.std.specs.Prelude.{Result, Ok, Err}
 use Rattle.types_codec.specs.declared.codec.CodecError.{CodecError}
 use Rattle.types_core.specs.declared.scheme.Scheme.{Ghosts}
@@ -77,10 +76,6 @@ module _ {S L D P G C K A : Type 0} (g : Ghosts S D P G C) (e : elector.Ghosts L
         let (events, read, left) = ends_over F p w q (Answer (IsStep g e k formats) old new) (AnswerBefore (IsStep g e k formats) old new) ReadFailed (λ events. LeavesAtMost k (book_of old) (book_of new) (IsPassed g (formats (g.size s.voter.scheme)) s h events)) r given text more
         (λ events replies a. leaves g e k formats s events replies h old new keeps kept a) (λ events replies event why a. leaves_too g e k formats s events replies event why h old new keeps kept a) ends in
         record { events = events; read = read; leaves = left }
-
--- what isn't at most another is above it
-pub below : (a b : ℕ) → (a ≤ b → ⊥) → b < a
-below a b not = elim (cases_lt b a) [ inl less ↦ less | inr above ↦ absurd (not above) ]
 
 -- so of a stretch, by what was stepped over
 module _ {S L D P G C K A : Type 0} (g : Ghosts S D P G C) (e : elector.Ghosts L S D P G C) (k : disk.Ghosts K) (formats : ℕ → Formats S D P G C) (F : D → Type 0) (p : D → List ℕ)

@@ -1,6 +1,6 @@
 //! A node over streams.
 
-ghost use Rattle.std.specs.Prelude.{◌≡◌, ◌≢◌, ◌<◌, ◌≤◌, ℕ, List, Option, false, true, Err, Ok};
+ghost use Rattle.std.specs.Prelude.{◌≡◌, ◌≢◌, ◌<◌, ◌≤◌, ◌^◌, ℕ, List, Option, false, true, Err, Ok};
 ghost use Rattle.journal_single.specs.Disk.{counted};
 ghost use Rattle.journal_books.specs.Books.{HasFailed, HasNotFailed, are_two};
 ghost use Rattle.simplex_member.specs.declared.action.Reply.{Reply};
@@ -11,7 +11,7 @@ ghost use Rattle.simplex_member.specs.declared.fault.NodeFault.TheVariants.{Devi
 ghost use Rattle.simplex_member.specs.Layers.{finalized_of};
 ghost use Rattle.node_steps.specs.Keeps.{AtAll, AtOwn, book_of, disks_of, has_failed};
 ghost use Rattle.simplex_node.specs.Running.{LeavesPassed, RunFails, RunsTo};
-ghost use Rattle.node_wire.specs.declared.stretch.Stretch.TheVariants.{Ended, Paused};
+ghost use Rattle.node_wire.specs.declared.stretch.Stretch.TheVariants.{Paused};
 ghost use Rattle.node_wire.specs.Amid.{StandsBehind, StopsIn};
 ghost use Rattle.node_wire.specs.Stepper.{Behind, FailsBehind};
 ghost use Rattle.node_wire.specs.Stream.{left_of};
@@ -69,9 +69,9 @@ pub fn run_io<S: Scheme<D> + Drop, L: Elector<S, D>, D: Digest, K: Disk, R: Sour
     answer_stream::<NodeSteps, S, D, Node<S, L, D, K>, R, W>(alloc, node, reader, writer)
 }
 
-/// Reads events from the reader, behind those that were taken of it with this input before, until it ends between two, or stands before
-/// one while this view, or one above it, is final, and answers each on the writer before the next is read. Behind a pause another call
-/// goes on with the same input: nothing that was read is lost.
+/// Reads events from the reader, behind those that were taken of it with this input before, until it ends between two, or this view or
+/// one above it is final behind one, and answers each on the writer before the next is read. Behind a pause another call goes on with
+/// the same input: nothing that was read is lost.
 ///
 /// # Errors
 ///
@@ -95,9 +95,9 @@ pub fn run_some_io<S: Scheme<D> + Drop, L: Elector<S, D>, D: Digest, K: Disk, R:
         (R.failed reader.new ≡ counted false (R.failed reader.old)) result given (left_of input.new (R.remaining reader.new)) input.new text
         (W.contents writer.new)) }
 
-    // It pauses once the view is final, and nowhere else.
+    // It pauses once the view is final, behind an event.
     ensures paused { result ≡ Ok Paused → AtAll S.Scheme L.Elector K.Disk node.new (λ f s h. view ≤ finalized_of s h) }
-    ensures ended { result ≡ Ok Ended → AtAll S.Scheme L.Elector K.Disk node.new (λ f s h. finalized_of s h < view) }
+    ensures goes_on { result ≡ Ok Paused → (input.old.taken < input.new.taken) × (input.new.taken ≤ 2 ^ 32) }
     ensures failed { (why : NodeFault) → result ≡ Err (fault.Node why) → has_failed node.new ≡ true }
     ensures refused_if_failed { has_failed node.old ≡ true → (node.new ≡ node.old) × (writer.new ≡ writer.old) }
 

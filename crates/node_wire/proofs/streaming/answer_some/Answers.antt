@@ -1,4 +1,4 @@
-use Rattle.std.proofs.Common.{ℕ, refl, sym, ap, ◌∙◌, subst, inl}
+use Rattle.std.proofs.Common.{◌≡◌, ◌<◌, ◌^◌, ℕ, true, arith, refl, sym, ap, ◌∙◌, subst, inl}
 use Rattle.std.specs.Prelude.{Err, false}
 use Rattle.journal_single.specs.Disk.{counted}
 use Rattle.node_wire.specs.Stream.{left_of}
@@ -33,15 +33,51 @@ loop-alloc-preserved g c =
       flushed = λ before. c.answer.ensures.flushed (λ bad. absurd cc) (c.loop-alloc.invariant.flushed before);
     }
 
--- it pauses
+-- it pauses behind the event that was answered last
 pub returns-then-is_due-clause-answers : goal.returns-then-is_due-clause-answers
 returns-then-is_due-clause-answers g c = λ given text before said stands.
+    let took = rw c.in-Some.is at c.in-Ok.ensures.event in
     stops_amid g.T.Stepper.steps g.D.Write.fits g.D.Write.spelling (spelled g.S.PublicKey.Write.spelling g.D.Write.spelling g.S.Signature.Write.spelling g.S.Certificate.Write.spelling) before said
-    c.args.node.now c.loop-alloc.node c.args.input.now given (left_of c.args.input.now (g.R.Source.remaining c.args.reader.now)) (left_of c.loop-alloc.input (g.R.Source.remaining c.loop-alloc.reader)) c.loop-alloc.input text (g.W.Sink.contents c.args.writer.now) (g.W.Sink.contents c.loop-alloc.writer) stands c.loop-alloc.invariant.so_far
+    c.args.node.now c.answer.new.node c.args.input.now given (left_of c.args.input.now (g.R.Source.remaining c.args.reader.now)) (left_of c.next_event.new.self (g.R.Source.remaining c.next_event.new.reader)) c.next_event.new.self text (g.W.Sink.contents c.args.writer.now) (g.W.Sink.contents c.answer.new.writer) stands
+    (goes_one g.T.Stepper.steps g.D.Write.fits g.D.Write.spelling (spelled g.S.PublicKey.Write.spelling g.D.Write.spelling g.S.Signature.Write.spelling g.S.Certificate.Write.spelling)
+    c.args.node.now c.loop-alloc.node c.answer.new.node c.args.input.now (left_of c.args.input.now (g.R.Source.remaining c.args.reader.now)) (left_of c.loop-alloc.input (g.R.Source.remaining c.loop-alloc.reader)) (left_of c.next_event.new.self (g.R.Source.remaining c.next_event.new.reader)) c.loop-alloc.input c.next_event.new.self
+    (g.W.Sink.contents c.args.writer.now) (g.W.Sink.contents c.loop-alloc.writer) (g.W.Sink.contents c.answer.new.writer) c.in-Some.event c.loop-alloc.invariant.so_far took c.in-Ok-answer.ensures.answers)
 
 pub returns-then-is_due-clause-steps : goal.returns-then-is_due-clause-steps
-returns-then-is_due-clause-steps g c = steps_some g.T.Stepper.steps g.D.Write.fits g.D.Write.spelling (spelled g.S.PublicKey.Write.spelling g.D.Write.spelling g.S.Signature.Write.spelling g.S.Certificate.Write.spelling)
-    c.args.node.now c.loop-alloc.node c.args.input.now (left_of c.args.input.now (g.R.Source.remaining c.args.reader.now)) (left_of c.loop-alloc.input (g.R.Source.remaining c.loop-alloc.reader)) c.loop-alloc.input (g.W.Sink.contents c.args.writer.now) (g.W.Sink.contents c.loop-alloc.writer) c.loop-alloc.invariant.so_far
+returns-then-is_due-clause-steps g c =
+    let took = rw c.in-Some.is at c.in-Ok.ensures.event in
+    steps_some g.T.Stepper.steps g.D.Write.fits g.D.Write.spelling (spelled g.S.PublicKey.Write.spelling g.D.Write.spelling g.S.Signature.Write.spelling g.S.Certificate.Write.spelling)
+    c.args.node.now c.answer.new.node c.args.input.now (left_of c.args.input.now (g.R.Source.remaining c.args.reader.now)) (left_of c.next_event.new.self (g.R.Source.remaining c.next_event.new.reader)) c.next_event.new.self (g.W.Sink.contents c.args.writer.now) (g.W.Sink.contents c.answer.new.writer)
+    (goes_one g.T.Stepper.steps g.D.Write.fits g.D.Write.spelling (spelled g.S.PublicKey.Write.spelling g.D.Write.spelling g.S.Signature.Write.spelling g.S.Certificate.Write.spelling)
+    c.args.node.now c.loop-alloc.node c.answer.new.node c.args.input.now (left_of c.args.input.now (g.R.Source.remaining c.args.reader.now)) (left_of c.loop-alloc.input (g.R.Source.remaining c.loop-alloc.reader)) (left_of c.next_event.new.self (g.R.Source.remaining c.next_event.new.reader)) c.loop-alloc.input c.next_event.new.self
+    (g.W.Sink.contents c.args.writer.now) (g.W.Sink.contents c.loop-alloc.writer) (g.W.Sink.contents c.answer.new.writer) c.in-Some.event c.loop-alloc.invariant.so_far took c.in-Ok-answer.ensures.answers)
+
+pub returns-then-is_due-clause-paused : goal.returns-then-is_due-clause-paused
+returns-then-is_due-clause-paused g c = λ same.
+    let yes : c.is_due.result ≡ true = cc in
+    subst (g.P.Pause.tells c.args.pause.now c.answer.new.node) yes c.is_due.ensures
+
+pub returns-then-is_due-clause-goes_on : goal.returns-then-is_due-clause-goes_on
+returns-then-is_due-clause-goes_on g c = λ same.
+    let took = rw c.in-Some.is at c.in-Ok.ensures.event in
+    let few : c.loop-alloc.input.taken < 2 ^ 32 = c.is_spent.ensures.unspent (cc) in
+    (omega (arith, c.loop-alloc.invariant.so_far.count, took.taken), omega (arith, few, took.taken))
+
+-- no step answers where none does
+pub returns-then-is_due-clause-untouched : goal.returns-then-is_due-clause-untouched
+returns-then-is_due-clause-untouched g c = λ none.
+    let still = c.loop-alloc.invariant.still none in
+    let (reply, step, written) = c.in-Ok-answer.ensures.answers in
+    absurd (none_went g.T.Stepper.steps c.args.node.now c.loop-alloc.node c.answer.new.node c.in-Some.event reply none still.0 step)
+
+pub returns-then-is_due-clause-read : goal.returns-then-is_due-clause-read
+returns-then-is_due-clause-read g c = λ other. c.next_event.ensures.not_failed (λ bad. absurd cc) ∙ c.loop-alloc.invariant.read
+
+pub returns-then-is_due-clause-write : goal.returns-then-is_due-clause-write
+returns-then-is_due-clause-write g c = λ other. c.answer.ensures.not_failed (λ bad. absurd cc) ∙ c.loop-alloc.invariant.written
+
+pub returns-then-is_due-clause-flushed : goal.returns-then-is_due-clause-flushed
+returns-then-is_due-clause-flushed g c = λ other before. c.answer.ensures.flushed (λ bad. absurd cc) (c.loop-alloc.invariant.flushed before)
 
 -- no event was at hand
 pub returns-in-Err-clause-answers : goal.returns-in-Err-clause-answers

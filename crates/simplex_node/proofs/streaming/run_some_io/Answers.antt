@@ -1,9 +1,9 @@
-use Rattle.std.proofs.Common.{◌≡◌, true, false, refl}
+use Rattle.std.proofs.Common.{refl}
 use Rattle.simplex_member.specs.Packet.{formats}
 use Rattle.node_wire.specs.Stream.{left_of}
 use Rattle.node_wire.specs.Streaming.{spelled}
 use Rattle.simplex_node.proofs.Stepped.{failed_answers_none}
-use Rattle.simplex_node.proofs.Streamed.{below, some_answers, some_as_many, some_device, some_failed, some_leaves, some_no_device, some_still}
+use Rattle.simplex_node.proofs.Streamed.{some_answers, some_as_many, some_device, some_failed, some_leaves, some_no_device, some_still}
 use Rattle.simplex_node.proofs.streaming.run_some_io.Goals as goal
 
 pub returns-clause-answers : goal.returns-clause-answers
@@ -15,12 +15,6 @@ returns-clause-answers g c = λ s h keeps given text before said stands.
 -- the view is final
 pub returns-clause-paused : goal.returns-clause-paused
 returns-clause-paused g c = λ is f s h keeps. (c.answer_some.ensures.paused is f s h keeps).0 refl
-
--- it isn't
-pub returns-clause-ended : goal.returns-clause-ended
-returns-clause-ended g c = λ is f s h keeps.
-    let tells = c.answer_some.ensures.ended is f s h keeps in
-    below _ _ (λ reached. absurd (let bad : false ≡ true = tells.1 reached in cc))
 
 pub returns-clause-failed : goal.returns-clause-failed
 returns-clause-failed g c = some_failed g.S.Scheme g.L.Elector g.K.Disk (formats g.D.PartialEq.eq g.D.Write.spelling g.S.Signature.Write.spelling g.S.Certificate.Write.spelling g.D.Read.reading g.S.Signature.Read.reading g.S.Certificate.Read.reading)
