@@ -91,7 +91,8 @@ conduct_lines c =
     ++ (number_line key.Retention c.view_retention
     ++ (skip_lines c.skip
     ++ (words_line key.Forwarding (forward_word c.forward)
-    ++ truth_line key.HistoricalVotes c.track_historical_votes)))))
+    ++ (truth_line key.HistoricalVotes c.track_historical_votes
+    ++ number_line key.RewriteViews c.rewrite_views))))))
 
 -- the path of the record, if it is named
 unfoldable pub record_line : MemberFile → List ℕ

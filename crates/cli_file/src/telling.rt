@@ -222,7 +222,8 @@ fn push_conduct(alloc: Global, text: &mut Vec<u8>, conduct: &Conduct) -> Result<
     let forward = word_of_forwarding(conduct.forward);
     push_words(alloc, text, Key::Forwarding, forward.as_bytes())?;
     let votes = conduct.track_historical_votes;
-    push_truth(alloc, text, Key::HistoricalVotes, votes)
+    push_truth(alloc, text, Key::HistoricalVotes, votes)?;
+    push_number(alloc, text, Key::RewriteViews, conduct.rewrite_views)
 }
 
 /// Ends the text with whether a view may be given up before its deadlines.

@@ -11,7 +11,8 @@ abbrev pub program_turns : Turns
 program_turns = record { length = 4; stall_timeout = 10000; optimistic_views = 2 }
 
 -- a second for a proposal, two for a verdict, five until a vote is sent again; ten views are kept; a leader that was silent for
--- eight seconds is passed over, as often as there are members; nothing is forwarded, and each vote is kept
+-- eight seconds is passed over, as often as there are members; nothing is forwarded, and each vote is kept; a record is rewritten at the
+-- end of an input alone
 abbrev pub program_conduct : Conduct
 program_conduct = record {
   leader_timeout = 1000;
@@ -21,6 +22,7 @@ program_conduct = record {
   skip = skip.Enabled 8000 budget.Participants;
   forward = forward.Disabled;
   track_historical_votes = true;
+  rewrite_views = 0;
 }
 
 -- the payload that view 0 stands for

@@ -24,6 +24,7 @@ key_name key.SkipTimeout = codes "skip-timeout"
 key_name key.SkipBudget = codes "skip-budget"
 key_name key.Forwarding = codes "forwarding"
 key_name key.HistoricalVotes = codes "historical-votes"
+key_name key.RewriteViews = codes "rewrite-views"
 
 -- the name is a key's
 abbrev pub IsKey : List ℕ → Type 0

@@ -66,6 +66,7 @@ module _ (t : Members) where
     pub skip : SaysSkip c.skip
     pub forward : Gives (λ policy. string (forward_word policy)) forward.Disabled (under key.Forwarding t) c.forward
     pub track_historical_votes : Gives boolean true (under key.HistoricalVotes t) c.track_historical_votes
+    pub rewrite_views : Gives whole program_conduct.rewrite_views (under key.RewriteViews t) c.rewrite_views
 
   -- the 32 bytes of which a text has the hexadecimal digits, or zeros
   abbrev pub SaysGenesis : List ℕ → Type 0

@@ -45,6 +45,8 @@ pub enum Key {
     Forwarding,
     /// Whether each vote is kept until its view is dropped.
     HistoricalVotes,
+    /// How many views are finalized between two rewrites of the record.
+    RewriteViews,
 }
 
 impl Key {
@@ -72,6 +74,7 @@ impl Key {
             Key::SkipBudget => "skip-budget",
             Key::Forwarding => "forwarding",
             Key::HistoricalVotes => "historical-votes",
+            Key::RewriteViews => "rewrite-views",
         }
     }
 
@@ -100,6 +103,7 @@ impl Key {
             "skip-budget" => Some(Key::SkipBudget),
             "forwarding" => Some(Key::Forwarding),
             "historical-votes" => Some(Key::HistoricalVotes),
+            "rewrite-views" => Some(Key::RewriteViews),
             _ => None,
         }
     }

@@ -50,6 +50,7 @@ module _ (n : SettingsNumbers) where
     pub skip : SaysSkip c.skip
     pub forward : n.forwarding ≡ forward_number c.forward
     pub track_historical_votes : n.historical_votes ≡ truth_number c.track_historical_votes
+    pub rewrite_views : c.rewrite_views ≡ 0
 
   -- the seed, where leaders are shuffled
   abbrev pub SaysSeed : List ℕ → Option (List ℕ) → Type 0

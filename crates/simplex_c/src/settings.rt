@@ -145,6 +145,7 @@ fn conduct_of(numbers: &SettingsNumbers) -> Option<Conduct>
         skip,
         forward,
         track_historical_votes,
+        rewrite_views: 0,
     })
 }
 

@@ -55,7 +55,7 @@ pub fn serve_rewriting<
     input: &mut R,
     output: &mut W,
 ) -> (Result<(), Ending>, Disks<K>)
-    requires built { L.built_for elector (S.size scheme.value) }
+    requires { L.built_for elector (S.size scheme.value) }
     ensures streams { AreTold result.0 (R.failed input.old) (R.failed input.new) (W.failed output.old) (W.failed output.new)
         (W.is_flushed output.old) (W.is_flushed output.new) }
     ensures serves { ((why : OpenFault) × (result.0 ≡ Err (Open why)) × (output.new ≡ output.old) × IsUnopened S.Scheme L.Elector K.Disk
