@@ -37,9 +37,9 @@ comes_by own member ended Untouched Unopened two Run mine (inr (io, index, is, o
     inr (io, is, subst (λ (n : ℕ). Run io n) same run)
 
 -- a node ran whose record is rewritten while it does: by how many views, of which there are some
-by_some : (views : ℕ) (None : Type 0) (Some : Type 0) → views ≢ zero → Some → MatchZero views None Some
-by_some zero None Some not runs = absurd (not refl)
-by_some (suc views) None Some not runs = runs
+by_some : (views : ℕ) (P Q : Type 0) → views ≢ zero → Q → MatchZero views P Q
+by_some zero P Q not runs = absurd (not refl)
+by_some (suc views) P Q not runs = runs
 
 -- so where no record was opened, or the node ran by the index that its scheme has
 pub comes_rewriting : (own : Option ℕ) (member views : ℕ) → views ≢ zero → (ended : Result ⊤ Ending) (Untouched : Type 0) (Unopened : OpenFault → Type 0) (two : Bool) (Never : Type 0) (Run : Result Stretch IoFault → ℕ → Type 0) → own ≡ Some member

@@ -30,8 +30,8 @@ use Rattle.simplex_cli.specs.Serving.{EndsAs, ServesOver}
 
 -- what holds where a number is 0, or else
 abbrev pub MatchZero : ℕ → Type 0 → Type 0 → Type 0
-MatchZero zero None Some = None
-MatchZero (suc n) None Some = Some
+MatchZero zero P Q = P
+MatchZero (suc n) P Q = Q
 
 module _ {S D P G C K : Type 0} (g : Ghosts S D P G C) (k : disk.Ghosts K) (f : Formats S D P G C) (s : Rotation → Setup S D C)
     (F : D → Type 0) (p : D → List ℕ) (w : Reply S D P G C → List ℕ) (q : List ℕ → Result (D × List ℕ) CodecError) where

@@ -21,7 +21,7 @@ use Rattle.node_wire.specs.declared.stretch.Stretch.TheVariants.{Ended, Paused}
 use Rattle.node_wire.specs.Stepper.{Answer, AnswerBefore, AnswersNone, Behind, FailsBehind}
 use Rattle.node_wire.specs.Streaming.{AnswersAll, AnswersFront, AnswersOne, BreaksOff, EndsIn, Fails, GivesUp, StandInFront}
 use Rattle.node_wire.proofs.Answered.{answer_on}
-use Rattle.node_wire.proofs.TakenOff.{all_taken_off, bytes_append, bytes_more, each_append, in_front, none_behind, taken_more, taken_none}
+use Rattle.node_wire.proofs.TakenOff.{all_taken_off, bytes_append, bytes_more, each_append, in_front, none_behind, taken_more}
 use Rattle.node_wire.proofs.Texts.{text_more}
 use Rattle.node_wire.specs.Over.{ends_as}
 
@@ -275,10 +275,6 @@ module _ {S D P G C N : Type 0} (steps : N → Event D → Result (Reply S D P G
       ends_unanswered q Failed fault.Memory (reply, step, kept) = inr (lost reply step kept)
 
 module _ {S D P G C : Type 0} (F : D → Type 0) (p : D → List ℕ) (w : Reply S D P G C → List ℕ) (q : List ℕ → Result (D × List ℕ) CodecError) where
-  -- nothing was taken of an input at first
-  pub stands_first : (given left : Option (List ℕ)) (state : InputState) (text : Option (List ℕ)) → left ≡ given → state.place ≡ 0 → state.taken ≡ 0 → StandsBehind F p w [] [] given left state text text
-  stands_first given left state text same zero none = record { taken = taken_none F p given left state.place same zero; count = sym none; written = Appends-nil text }
-
   module _ (Answered : List (Event D) → List (Reply S D P G C) → Type 0) (Failed : List (Event D) → List (Reply S D P G C) → Event D → NodeFault → Type 0) (ReadFailed : Type 0) where
     -- what was answered behind nothing was answered
     first_answered : (events : List (Event D)) (replies : List (Reply S D P G C)) → Behind [] [] Answered events replies → Answered events replies

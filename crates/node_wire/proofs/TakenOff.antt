@@ -16,10 +16,6 @@ use Rattle.node_wire.specs.Streaming.{StandInFront}
 use Rattle.node_wire.proofs.Texts.{text_more}
 
 module _ {D : Type 0} (F : D → Type 0) (p : D → List ℕ) where
-  -- none at first
-  pub taken_none : (given left : Option (List ℕ)) (place : ℕ) → left ≡ given → place ≡ 0 → TakenOff F p given left place []
-  taken_none given left place same zero = record { each = All-nil (IsEvent F); bytes = subst (λ (o : Option (List ℕ)). Consumes given o []) (sym same) (Consumes-nil given); at = zero }
-
   -- the bytes of some and of more
   pub bytes_append : (events more : List (Event D)) → bytes_of p (events ++ more) ≡ bytes_of p events ++ bytes_of p more
   bytes_append events more = ap (flat_map (event_spelling p)) (map-append event_value events more) ∙ flat_map-append (event_spelling p) (map event_value events) (map event_value more)

@@ -1,5 +1,9 @@
 -- What came of a stretch of an input, in other words.
-use Rattle.std.specs.Prelude.{◌≡◌, ◌++◌, ℕ, List, [], ◌∷◌, Option, IfSome, Result, Ok, Err, refl}
+use Rattle.std.specs.Prelude.{◌≡◌, ◌++◌, ℕ, List, [], ◌∷◌, Option, None, Some, IfSome, Result, Ok, Err, refl}
+use Rattle.std.specs.Io.KnownBytes.{Consumes}
+use Rattle.std.proofs.Common.{sym, subst}
+use Rattle.std.proofs.KnownBytes.{Appends-nil, Consumes-nil}
+use Rattle.std.proofs.lemmas.List.Elements.{All-nil}
 use Rattle.types_codec.specs.declared.codec.CodecError.{CodecError}
 use Rattle.simplex_member.specs.declared.action.Reply.{Reply}
 use Rattle.simplex_member.specs.declared.event.Event.{Event}
@@ -8,7 +12,8 @@ use Rattle.simplex_member.specs.declared.fault.IoFault.TheVariants as fault
 use Rattle.simplex_member.specs.declared.fault.NodeFault.{NodeFault}
 use Rattle.node_wire.specs.declared.stretch.Stretch.{Stretch}
 use Rattle.node_wire.specs.declared.stretch.Stretch.TheVariants.{Ended, Paused}
-use Rattle.node_wire.specs.Amid.{StepsOver, StopsIn}
+use Rattle.node_wire.specs.Event.{IsEvent}
+use Rattle.node_wire.specs.Amid.{StandsBehind, StepsOver, StopsIn, TakenOff}
 use Rattle.node_wire.specs.Over.{ends_as}
 use Rattle.node_wire.specs.Stepper.{Behind, FailsBehind}
 use Rattle.node_wire.specs.Stream.{InputState}
@@ -56,3 +61,19 @@ module _ {S D P G C : Type 0} (F : D → Type 0) (p : D → List ℕ) (Answered 
     stops_as w q ReadFailed (Ok Paused) given left state text more stops = record { events = stops.events; replies = stops.replies; answered = all stops.events stops.replies stops.answered; stands = stops.stands }
     stops_as w q ReadFailed (Ok Ended) given left state text more stops = ends_as F p w q Answered Failed ReadFailed Other Differs all last (Ok Ended) given text more stops
     stops_as w q ReadFailed (Err why) given left state text more stops = ends_as F p w q Answered Failed ReadFailed Other Differs all last {A = Stretch} (Err why) given text more stops
+
+module _ {D : Type 0} (F : D → Type 0) (p : D → List ℕ) where
+  -- what was taken of an input stands at its front
+  pub amid_front : (given left : Option (List ℕ)) (place : ℕ) (events : List (Event D)) → TakenOff F p given left place events → IfSome given (StandInFront F p events)
+  amid_front None left place events t = tt
+  amid_front (Some bytes) None place events t = absurd t.bytes
+  amid_front (Some bytes) (Some rest) place events t = (rest, record { each = t.each; whole = t.bytes })
+
+  -- nothing was taken of an input at first
+  pub stands_first : {S P G C : Type 0} (w : Reply S D P G C → List ℕ) (given left : Option (List ℕ)) (state : InputState) (text : Option (List ℕ)) → left ≡ given → state.place ≡ 0 → state.taken ≡ 0
+      → StandsBehind F p w [] [] given left state text text
+  stands_first w given left state text same zero none = record {
+    taken = record { each = All-nil (IsEvent F); bytes = subst (λ (o : Option (List ℕ)). Consumes given o []) (sym same) (Consumes-nil given); at = zero };
+    count = sym none;
+    written = Appends-nil text;
+  }

@@ -1,0 +1,166 @@
+-- What a node comes to whose record is rewritten while it runs.
+use Rattle.std.proofs.Common.{◌≡◌, ◌⊎◌, inl, inr, sym, ap, ◌∙◌, subst, refl, append-nil, ℕ, List, [], ◌∷◌, ◌++◌, map, Bool, Option, None, Some}
+use Rattle.std.specs.Prelude.{Result, Ok, Err, IfErr, OnOk, false, true, ⊤}
+use Rattle.types_codec.specs.declared.codec.CodecError.{CodecError}
+use Rattle.types_core.specs.declared.scheme.Scheme.{Ghosts}
+use Rattle.types_terms.specs.declared.elector.Elector as elector
+use Rattle.messages_certificates.specs.ProposalCertificate.{Finalization}
+use Rattle.journal_single.specs.declared.disk.Disk as disk
+use Rattle.journal_books.specs.declared.disks.Disks.{Disks}
+use Rattle.journal_books.specs.Books.{Leave, MayBeRead, are_two}
+use Rattle.journal_books.specs.BooksLaws.{book_leaves, left_last}
+use Rattle.simplex_member.specs.declared.action.Reply.{Reply}
+use Rattle.simplex_member.specs.declared.event.Event.{Event}
+use Rattle.simplex_member.specs.declared.fault.IoFault.{IoFault}
+use Rattle.simplex_member.specs.declared.fault.NodeFault.{NodeFault}
+use Rattle.simplex_member.specs.Member.{IsReached, NoneDue, ReadsAsKept, Run}
+use Rattle.simplex_member.specs.Packet.{Formats}
+use Rattle.simplex_member.specs.Point.{History, Rewrote}
+use Rattle.simplex_member.specs.Recorded.{kept_of}
+use Rattle.simplex_member.specs.Setup.{Setup}
+use Rattle.node_core.specs.Rewriting.{IsLeftByRewrite}
+use Rattle.node_steps.specs.declared.node.Node.{Node}
+use Rattle.node_steps.specs.Keeps.{NodeKeeps, book_of, disks_of}
+use Rattle.node_wire.specs.declared.stretch.Stretch.{Stretch}
+use Rattle.node_wire.specs.declared.stretch.Stretch.TheVariants.{Paused, Ended}
+use Rattle.node_wire.specs.Amid.{StopsAmid}
+use Rattle.node_wire.specs.Over.{ends_as}
+use Rattle.node_wire.specs.OverAmid.{amid_front}
+use Rattle.node_wire.specs.Stepper.{Behind, FailsBehind}
+use Rattle.node_wire.specs.Stream.{InputState}
+use Rattle.node_wire.specs.Streaming.{AnswersFront, EndsIn}
+use Rattle.simplex_node.specs.Running.{RunFails, RunsTo}
+use Rattle.simplex_cli.specs.Rewriting.{AnswersAmong, FailsAmong, MayBeRewritten, RunRewriting, RunsAmong, ServesAmong}
+use Rattle.simplex_cli.specs.Serving.{IsLeftBehind}
+use Rattle.simplex_cli.proofs.Left.{none_due_behind}
+
+module _ {S D P G C : Type 0} (g : Ghosts S D P G C) (f : Formats S D P G C) (s : Setup S D C) where
+  -- a run, and one behind it
+  run_on : (turns more : List (Option (Finalization S D P G C))) (events later : List (Event D)) (replies answers : List (Reply S D P G C)) (h mid end : History S D P G C)
+      → RunRewriting g f s h turns events replies mid → RunRewriting g f s mid more later answers end → RunRewriting g f s h (turns ++ more) (events ++ later) (replies ++ answers) end
+  run_on [] more [] later [] answers h mid end same rest = subst (λ (x : History S D P G C). RunRewriting g f s x more later answers end) same rest
+  run_on [] more [] later (r ∷ replies) answers h mid end run rest = absurd run
+  run_on [] more (e ∷ events) later replies answers h mid end run rest = absurd run
+  run_on (None ∷ turns) more [] later replies answers h mid end run rest = absurd run
+  run_on (None ∷ turns) more (e ∷ events) later [] answers h mid end run rest = absurd run
+  run_on (None ∷ turns) more (e ∷ events) later (r ∷ replies) answers h mid end (next, step, run) rest = (next, step, run_on turns more events later replies answers next mid end run rest)
+  run_on (Some c ∷ turns) more events later replies answers h mid end (rewritten, run) rest = (rewritten, run_on turns more events later replies answers (Rewrote c ∷ h) mid end run rest)
+
+  -- a turn that is no rewrite, for each event
+  abbrev steps_over : List (Event D) → List (Option (Finalization S D P G C))
+  steps_over events = map (λ event. None) events
+
+  -- a run in which no rewrite lies
+  run_plain : (events : List (Event D)) (replies : List (Reply S D P G C)) (h end : History S D P G C) → Run g f s h events replies end → RunRewriting g f s h (steps_over events) events replies end
+  run_plain [] [] h end same = same
+  run_plain [] (r ∷ replies) h end run = absurd run
+  run_plain (e ∷ events) [] h end run = absurd run
+  run_plain (e ∷ events) (r ∷ replies) h end (mid, step, run) = (mid, step, run_plain events replies mid end run)
+
+  -- behind a run goes on one in which none lies
+  run_more : (turns : List (Option (Finalization S D P G C))) (before later events : List (Event D)) (said answers replies : List (Reply S D P G C)) (h mid end : History S D P G C)
+      → RunRewriting g f s h turns before said mid → Run g f s mid later answers end → events ≡ before ++ later → replies ≡ said ++ answers → RunRewriting g f s h (turns ++ steps_over later) events replies end
+  run_more turns before later events said answers replies h mid end run more split replied =
+      let all = run_on turns (steps_over later) before later said answers h mid end run (run_plain later answers mid end more) in
+      subst (λ (l : List (Event D)). RunRewriting g f s h (turns ++ steps_over later) l replies end) (sym split)
+      (subst (λ (l : List (Reply S D P G C)). RunRewriting g f s h (turns ++ steps_over later) (before ++ later) l end) (sym replied) all)
+
+module _ {S L D P G C K : Type 0} (g : Ghosts S D P G C) (e : elector.Ghosts L S D P G C) (k : disk.Ghosts K) (f : Formats S D P G C) (s : Setup S D C) where
+  -- none of a run is made at first
+  pub runs_first : (node : Node S L D K P G C) (h : History S D P G C) → NodeKeeps g e k f s node h → NoneDue g f s h → RunsAmong g e k f s node h [] []
+  runs_first node h keeps due = record { turns = []; end = h; run = refl; keeps = keeps; none_due = due }
+
+  -- it goes on by a stretch
+  pub runs_stretch : (old new : Node S L D K P G C) (h : History S D P G C) (before events : List (Event D)) (said replies : List (Reply S D P G C)) → (so_far : RunsAmong g e k f s old h before said)
+      → Behind before said (RunsTo g e k f s so_far.end new) events replies → RunsAmong g e k f s new h events replies
+  runs_stretch old new h before events said replies so_far b = record {
+    turns = so_far.turns ++ map (λ event. None) b.later;
+    end = b.answered.end;
+    run = run_more g f s so_far.turns before b.later events said b.answers replies h so_far.end b.answered.end so_far.run b.answered.run b.split b.replied;
+    keeps = b.answered.keeps;
+    none_due = none_due_behind g f s b.later b.answers so_far.end b.answered.end so_far.none_due b.answered.run;
+  }
+
+  -- and by a rewrite
+  pub runs_rewrite : (old new : Node S L D K P G C) (h : History S D P G C) (events : List (Event D)) (replies : List (Reply S D P G C)) → (so_far : RunsAmong g e k f s old h events replies)
+      → (end : History S D P G C) × MayBeRewritten g f s so_far.end end × NodeKeeps g e k f s new end → RunsAmong g e k f s new h events replies
+  runs_rewrite old new h events replies so_far (end, inl same, keeps) = record {
+    turns = so_far.turns;
+    end = end;
+    run = subst (λ (x : History S D P G C). RunRewriting g f s h so_far.turns events replies x) (sym same) so_far.run;
+    keeps = keeps;
+    none_due = subst (λ (x : History S D P G C). NoneDue g f s x) (sym same) so_far.none_due;
+  }
+  runs_rewrite old new h events replies so_far (end, inr (c, rewritten, is), keeps) =
+      let all = run_on g f s so_far.turns (Some c ∷ []) events [] replies [] h so_far.end end so_far.run (rewritten, is) in
+      record {
+        turns = so_far.turns ++ Some c ∷ [];
+        end = end;
+        run = subst (λ (l : List (Event D)). RunRewriting g f s h (so_far.turns ++ Some c ∷ []) l replies end) (append-nil events)
+            (subst (λ (l : List (Reply S D P G C)). RunRewriting g f s h (so_far.turns ++ Some c ∷ []) (events ++ []) l end) (append-nil replies) all);
+        keeps = keeps;
+        none_due = subst (λ (x : History S D P G C). NoneDue g f s x) (sym is) rewritten.none_due;
+      }
+
+  module _ (F : D → Type 0) (p : D → List ℕ) (w : Reply S D P G C → List ℕ) (q : List ℕ → Result (D × List ℕ) CodecError) (left : Disks K) where
+    -- what is left by a node that stands there
+    pub left_among : (io : Result Stretch IoFault) (node : Node S L D K P G C) (h : History S D P G C) (events : List (Event D)) (replies : List (Reply S D P G C)) → (runs : RunsAmong g e k f s node h events replies)
+        → (k.keeps → (read : List (List ℕ)) → MayBeRead k left read → IsLeftBehind g f s io (are_two left) runs.end read) → AnswersAmong g k f s left io h events replies
+    left_among io node h events replies runs leaves = record { turns = runs.turns; end = runs.end; run = runs.run; leaves = leaves }
+
+    -- a stretch that ended before its input
+    pub broken_among : (old node : Node S L D K P G C) (h : History S D P G C) (before : List (Event D)) (said : List (Reply S D P G C)) (ReadFailed : Type 0) (why : IoFault) (given text more : Option (List ℕ))
+        → (so_far : RunsAmong g e k f s old h before said) → left ≡ disks_of node
+        → ((end : History S D P G C) → NodeKeeps g e k f s node end → k.keeps → (read : List (List ℕ)) → MayBeRead k left read → ReadsAsKept g f s read end)
+        → EndsIn F p w {A = Stretch} q (Behind before said (RunsTo g e k f s so_far.end node)) (FailsBehind before said (RunFails g e k f s so_far.end node)) ReadFailed (Err why) given text more
+        → ServesAmong g k f s left F p w q h ReadFailed (Err why) given text more
+    unfolding left_among
+    broken_among old node h before said ReadFailed why given text more so_far back kept ends =
+        ends_as F p w q (Behind before said (RunsTo g e k f s so_far.end node)) (FailsBehind before said (RunFails g e k f s so_far.end node)) ReadFailed (AnswersAmong g k f s left (Err why) h) (FailsAmong g k f s left h)
+        (λ events replies b.
+        let runs = runs_stretch old node h before events said replies so_far b in
+        left_among (Err why) node h events replies runs (kept runs.end runs.keeps))
+        (λ events replies event cause b. record {
+          turns = so_far.turns ++ map (λ event. None) b.later;
+          end = b.failed.runs.end;
+          run = run_more g f s so_far.turns before b.later events said b.answers replies h so_far.end b.failed.runs.end so_far.run b.failed.runs.run b.split b.replied;
+          leaves = λ keeps read may.
+              left_last k (IsReached g f s b.failed.runs.end event) (disks_of b.failed.before) (disks_of node) read
+              (book_leaves k (IsReached g f s b.failed.runs.end event) f.artifact (kept_of s.voter.length b.failed.runs.end) (book_of b.failed.before) (book_of node) (b.failed.runs.keeps.core.ledger.journal keeps) (b.failed.any_moment keeps))
+              (subst (λ (on : Disks K). MayBeRead k on read) back may);
+        })
+        {A = Stretch} (Err why) given text more ends
+
+    -- one that came to the end of the input
+    pub ended_among : (old node : Node S L D K P G C) (h : History S D P G C) (before : List (Event D)) (said : List (Reply S D P G C)) (ReadFailed : Type 0) (given text more : Option (List ℕ))
+        → (so_far : RunsAmong g e k f s old h before said)
+        → ((end : History S D P G C) → NodeKeeps g e k f s node end → NoneDue g f s end → k.keeps → (read : List (List ℕ)) → MayBeRead k left read → IsLeftBehind g f s {A = Stretch} (Ok Ended) (are_two left) end read)
+        → EndsIn F p w q (Behind before said (RunsTo g e k f s so_far.end node)) (FailsBehind before said (RunFails g e k f s so_far.end node)) ReadFailed (Ok Ended) given text more
+        → ServesAmong g k f s left F p w q h ReadFailed (Ok Ended) given text more
+    unfolding left_among
+    ended_among old node h before said ReadFailed given text more so_far whole ends = record {
+      events = ends.events;
+      few = ends.few;
+      read = ends.read;
+      replies = ends.replies;
+      answered =
+          let runs = runs_stretch old node h before ends.events said ends.replies so_far ends.answered in
+          left_among (Ok Ended) node h ends.events ends.replies runs (whole runs.end runs.keeps runs.none_due);
+      written = ends.written;
+    }
+
+    -- one behind which the rewrite failed
+    pub paused_among : (old node : Node S L D K P G C) (h : History S D P G C) (before : List (Event D)) (said : List (Reply S D P G C)) (given behind : Option (List ℕ)) (state : InputState) (text more : Option (List ℕ))
+        → (so_far : RunsAmong g e k f s old h before said)
+        → ((end : History S D P G C) → NodeKeeps g e k f s node end → NoneDue g f s end → k.keeps → (read : List (List ℕ)) → MayBeRead k left read → IsLeftBehind g f s {A = Stretch} (Ok Paused) (are_two left) end read)
+        → StopsAmid F p w (Behind before said (RunsTo g e k f s so_far.end node)) given behind state text more → AnswersFront F p w (AnswersAmong g k f s left (Ok Paused) h) given text more
+    unfolding left_among
+    paused_among old node h before said given behind state text more so_far whole stops = record {
+      events = stops.events;
+      read = amid_front F p given behind state.place stops.events stops.stands.taken;
+      replies = stops.replies;
+      answered =
+          let runs = runs_stretch old node h before stops.events said stops.replies so_far stops.answered in
+          left_among (Ok Paused) node h stops.events stops.replies runs (whole runs.end runs.keeps runs.none_due);
+      written = stops.stands.written;
+    }
