@@ -3,7 +3,7 @@ use Rattle.std.proofs.Common.{◌≡◌, ℕ, ◌+◌, List, [], ◌∷◌, ◌+
 use Rattle.std.specs.Prelude.{Result}
 use Rattle.std.specs.List.{flat_map}
 use Rattle.std.specs.Io.KnownBytes.{Consumes, IsAtEnd}
-use Rattle.std.proofs.KnownBytes.{Consumes-nil, Consumes-trans}
+use Rattle.std.proofs.KnownBytes.{Consumes-trans}
 use Rattle.std.proofs.lemmas.Grind.{flat_map-append}
 use Rattle.std.proofs.lemmas.List.{map-append}
 use Rattle.std.proofs.lemmas.List.Elements.{All-append, All-cons, All-nil}
@@ -22,7 +22,7 @@ module _ {D : Type 0} (F : D → Type 0) (p : D → List ℕ) where
 
   -- each of some and of more
   pub each_append : (events more : List (Event D)) → All (IsEvent F) (map event_value events) → All (IsEvent F) (map event_value more) → All (IsEvent F) (map event_value (events ++ more))
-  each_append events more first then = subst (All (IsEvent F)) (sym (map-append event_value events more)) (All-append (IsEvent F) (map event_value events) (map event_value more) first then)
+  each_append events more first others = subst (All (IsEvent F)) (sym (map-append event_value events more)) (All-append (IsEvent F) (map event_value events) (map event_value more) first others)
 
   -- the values of one more, and its bytes
   values_more : (events : List (Event D)) (e : Event D) → map event_value (events ++ e ∷ []) ≡ map event_value events ++ event_value e ∷ []

@@ -21,6 +21,7 @@ use Rattle.simplex_member.specs.Setup.{Setup}
 use Rattle.node_core.specs.Rewriting.{IsLeftByRewrite}
 use Rattle.node_steps.specs.declared.node.Node.{Node}
 use Rattle.node_steps.specs.Keeps.{NodeKeeps, book_of, disks_of}
+use Rattle.node_steps.specs.Rewriting.{NodeIsRewritten}
 use Rattle.node_wire.specs.declared.stretch.Stretch.{Stretch}
 use Rattle.node_wire.specs.declared.stretch.Stretch.TheVariants.{Paused, Ended}
 use Rattle.node_wire.specs.Amid.{StopsAmid}
@@ -101,6 +102,30 @@ module _ {S L D P G C K : Type 0} (g : Ghosts S D P G C) (e : elector.Ghosts L S
         keeps = keeps;
         none_due = subst (λ (x : History S D P G C). NoneDue g f s x) (sym is) rewritten.none_due;
       }
+
+  -- where a node stands behind a rewrite that succeeded
+  pub rewrite_keeps : (old new : Node S L D K P G C) (h : History S D P G C) (view : Option ℕ)
+      → ((floor : ℕ) → view ≡ Some floor → NodeIsRewritten g e k f s new h floor) → (view ≡ None → new ≡ old)
+      → NodeKeeps g e k f s old h → NoneDue g f s h → (end : History S D P G C) × MayBeRewritten g f s h end × NodeKeeps g e k f s new end
+  rewrite_keeps old new h None some none keeps due = (h, inl refl, subst (λ (n : Node S L D K P G C). NodeKeeps g e k f s n h) (sym (none refl)) keeps)
+  rewrite_keeps old new h (Some floor) some none keeps due =
+      let rewritten = some floor refl in
+      (Rewrote rewritten.floor ∷ h, inr (rewritten.floor, rewritten.rewritten due, refl), rewritten.keeps)
+
+  module _ (F : D → Type 0) (p : D → List ℕ) (w : Reply S D P G C → List ℕ) where
+    -- a stretch that paused, and a rewrite behind it
+    pub amid_next : (old ran new : Node S L D K P G C) (h : History S D P G C) (before : List (Event D)) (said : List (Reply S D P G C)) (given behind : Option (List ℕ)) (state : InputState) (text more : Option (List ℕ))
+        → (so_far : RunsAmong g e k f s old h before said) → StopsAmid F p w (Behind before said (RunsTo g e k f s so_far.end ran)) given behind state text more
+        → ((end : History S D P G C) → NodeKeeps g e k f s ran end → NoneDue g f s end → (next : History S D P G C) × MayBeRewritten g f s end next × NodeKeeps g e k f s new next)
+        → StopsAmid F p w (RunsAmong g e k f s new h) given behind state text more
+    amid_next old ran new h before said given behind state text more so_far stops rewrite = record {
+      events = stops.events;
+      replies = stops.replies;
+      answered =
+          let runs = runs_stretch old ran h before stops.events said stops.replies so_far stops.answered in
+          runs_rewrite ran new h stops.events stops.replies runs (rewrite runs.end runs.keeps runs.none_due);
+      stands = stops.stands;
+    }
 
   module _ (F : D → Type 0) (p : D → List ℕ) (w : Reply S D P G C → List ℕ) (q : List ℕ → Result (D × List ℕ) CodecError) (left : Disks K) where
     -- what is left by a node that stands there

@@ -97,21 +97,18 @@ fn serve<S: Scheme<D> + Drop, L: Elector<S, D>, D: Digest, K: Disk, R: Source, W
     let mut node = node;
     let mut events = EventInput::new(alloc);
     loop {
-        let view = node.last_finalized().get().saturating_add(views);
-        let stretch = match run_some_io(
-            alloc,
-            &mut node,
-            &mut events,
-            input,
-            output,
-            View::new(view),
-        ) {
-            Ok(stretch) => stretch,
+        let view = View::new(node.last_finalized().get().saturating_add(views));
+        match run_some_io(alloc, &mut node, &mut events, input, output, view) {
+            Ok(Stretch::Paused) => {
+                if let Err(ending) = shorten(&mut node) {
+                    return (Err(ending), node.into_disks());
+                }
+            }
+            Ok(Stretch::Ended) => {
+                let ended = shorten(&mut node);
+                return (ended, node.into_disks());
+            }
             Err(fault) => return (Err(Ending::of(fault)), node.into_disks()),
-        };
-        let shortened = shorten(&mut node);
-        if stretch == Stretch::Ended || shortened.is_err() {
-            return (shortened, node.into_disks());
         }
     }
 }
