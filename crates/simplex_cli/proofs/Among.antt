@@ -1,9 +1,11 @@
 -- What a node comes to whose record is rewritten while it runs.
 use Rattle.std.proofs.Common.{◌≡◌, ◌⊎◌, inl, inr, sym, ap, ◌∙◌, subst, refl, append-nil, ℕ, List, [], ◌∷◌, ◌++◌, map, Bool, Option, None, Some}
 use Rattle.std.specs.Prelude.{Result, Ok, Err, IfErr, OnOk, false, true, ⊤}
+use Rattle.std.specs.Io.KnownBytes.{Appends}
 use Rattle.types_codec.specs.declared.codec.CodecError.{CodecError}
 use Rattle.types_core.specs.declared.scheme.Scheme.{Ghosts}
 use Rattle.types_terms.specs.declared.elector.Elector as elector
+use Rattle.messages_certificates.specs.declared.artifact.Artifact.{Artifact}
 use Rattle.messages_certificates.specs.ProposalCertificate.{Finalization}
 use Rattle.journal_single.specs.declared.disk.Disk as disk
 use Rattle.journal_books.specs.declared.disks.Disks.{Disks}
@@ -21,6 +23,7 @@ use Rattle.simplex_member.specs.Setup.{Setup}
 use Rattle.node_core.specs.Rewriting.{IsLeftByRewrite}
 use Rattle.node_steps.specs.declared.node.Node.{Node}
 use Rattle.node_steps.specs.Keeps.{NodeKeeps, book_of, disks_of}
+use Rattle.node_steps.specs.Opening.{IsOpenAndSettled}
 use Rattle.node_steps.specs.Rewriting.{NodeIsRewritten}
 use Rattle.node_wire.specs.declared.stretch.Stretch.{Stretch}
 use Rattle.node_wire.specs.declared.stretch.Stretch.TheVariants.{Paused, Ended}
@@ -31,7 +34,8 @@ use Rattle.node_wire.specs.Stepper.{Behind, FailsBehind}
 use Rattle.node_wire.specs.Stream.{InputState}
 use Rattle.node_wire.specs.Streaming.{AnswersFront, EndsIn}
 use Rattle.simplex_node.specs.Running.{RunFails, RunsTo}
-use Rattle.simplex_cli.specs.Rewriting.{AnswersAmong, FailsAmong, MayBeRewritten, RunRewriting, RunsAmong, ServesAmong}
+use Rattle.simplex_cli.specs.declared.ending.Ending.{Ending}
+use Rattle.simplex_cli.specs.Rewriting.{AnswersAmong, EndsAmong, FailsAmong, MayBeRewritten, RunRewriting, RunsAmong, ServesAmong, ServesRewriting}
 use Rattle.simplex_cli.specs.Serving.{IsLeftBehind}
 use Rattle.simplex_cli.proofs.Left.{none_due_behind}
 
@@ -189,3 +193,13 @@ module _ {S L D P G C K : Type 0} (g : Ghosts S D P G C) (e : elector.Ghosts L S
           left_among (Ok Paused) node h stops.events stops.replies runs (whole runs.end runs.keeps runs.none_due);
       written = stops.stands.written;
     }
+
+  module _ (F : D → Type 0) (p : D → List ℕ) (w : Reply S D P G C → List ℕ) (q : List ℕ → Result (D × List ℕ) CodecError) where
+    -- behind the opening of a record, whose first reply was written
+    pub serves_rewriting : (Readable : Artifact S D P G C → Type 0) (brought : Option (Finalization S D P G C)) (on left : Disks K) (now : ℕ) (node : Node S L D K P G C) (first : Reply S D P G C) (ReadFailed : Type 0) (r : Result ⊤ Ending) (given text mid more : Option (List ℕ))
+        → first.refused ≡ None → IsOpenAndSettled g e k f s Readable brought on now node first.actions.items → Appends text mid (w first) → are_two (disks_of node) ≡ are_two on
+        → ((h : History S D P G C) → NodeKeeps g e k f s node h → NoneDue g f s h → (io : Result Stretch IoFault) × EndsAmong io (are_two (disks_of node)) r × ServesAmong g k f s left F p w q h ReadFailed io given mid more)
+        → (io : Result Stretch IoFault) × EndsAmong io (are_two on) r × ServesRewriting g k f s F p w q Readable brought on left now ReadFailed io given text more
+    serves_rewriting Readable brought on left now node first ReadFailed r given text mid more taken settled whole many serves =
+        let this = serves settled.end settled.keeps settled.opens.rests.none_due in
+        (this.0, subst (λ (two : Bool). EndsAmong this.0 two r) many this.1, record { found = settled.found; founded = settled.founded; are_found = settled.are.are_found; appends = settled.are.appended.appends; first = first; taken = taken; end = settled.end; opens = settled.opens; starts = inl (mid, whole, this.2) })

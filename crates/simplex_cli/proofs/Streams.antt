@@ -1,11 +1,14 @@
 -- What a program tells of its streams, by what a run over them does.
 use Rattle.std.proofs.Common.{◌≡◌, ◌≢◌, ◌⊎◌, inl, inr, ℕ, refl, sym, ap, ◌∙◌, subst}
-use Rattle.std.specs.Prelude.{Result, Ok, Err, false, true}
+use Rattle.std.specs.Prelude.{Bool, Result, Ok, Err, false, true, ⊤}
 use Rattle.journal_single.specs.Disk.{counted}
 use Rattle.simplex_member.specs.declared.fault.IoFault.{IoFault}
 use Rattle.simplex_member.specs.declared.fault.IoFault.TheVariants as fault
 use Rattle.simplex_cli.specs.declared.ending.Ending.{Ending}
 use Rattle.simplex_cli.specs.declared.ending.Ending.TheVariants as ending
+use Rattle.node_wire.specs.declared.stretch.Stretch.{Stretch}
+use Rattle.node_wire.specs.declared.stretch.Stretch.TheVariants.{Paused, Ended}
+use Rattle.simplex_cli.specs.Rewriting.{EndsAmong}
 use Rattle.simplex_cli.specs.Serving.{AreTold, EndsAs, ended_of}
 
 module _ {A : Type 0} where
@@ -73,3 +76,34 @@ module _ {A : Type 0} where
     write = λ any. ap failed same;
     flushed = λ any before. subst Flushed (sym same) before;
   }
+
+-- how a run with rewrites ended is told as its last stretch was, whatever that came to
+retold : {A B : Type 0} → B → Result A Ending → Result B Ending
+retold done (Ok x) = Ok done
+retold done (Err why) = Err why
+
+pub told_among : (io : Result Stretch IoFault) (two : Bool) (ended : Result ⊤ Ending) (read_before read_now written_before written_now : ℕ) (Was Is : Type 0) → EndsAmong io two ended
+    → AreTold (ended_of io) read_before read_now written_before written_now Was Is → AreTold ended read_before read_now written_before written_now Was Is
+told_among (Err why) two ended read_before read_now written_before written_now Was Is so told = record {
+  read = λ other. told.read (λ bad. other (so ∙ ap (retold tt) bad));
+  write_failed = λ is. told.write_failed (ap (retold Ended) (sym so ∙ is));
+  write = λ other. told.write (λ bad. other (so ∙ ap (retold tt) bad));
+  flushed = λ other. told.flushed (λ bad. other (so ∙ ap (retold tt) bad));
+}
+told_among (Ok Paused) two ended read_before read_now written_before written_now Was Is (why, so) told = record {
+  read = λ other. told.read (λ bad. absurd cc);
+  write_failed = λ is. absurd (let bad = sym so ∙ is in cc);
+  write = λ other. told.write (λ bad. absurd cc);
+  flushed = λ other. told.flushed (λ bad. absurd cc);
+}
+told_among (Ok Ended) two ended read_before read_now written_before written_now Was Is so told =
+    told_so (Ok tt) ended read_before read_now written_before written_now Was Is (either two so) (record {
+      read = λ other. told.read (λ bad. absurd cc);
+      write_failed = λ is. absurd cc;
+      write = λ other. told.write (λ bad. absurd cc);
+      flushed = λ other. told.flushed (λ bad. absurd cc);
+    })
+  where
+    either : (two : Bool) → EndsAs (Ok tt) two ended → EndsAs (Ok tt) true ended
+    either true so = so
+    either false so = inl so
