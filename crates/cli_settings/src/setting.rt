@@ -53,7 +53,7 @@ pub struct Conduct {
     pub forward: ForwardPolicy,
     /// Whether each vote is kept until its view is dropped, also behind a certificate and of views that were skipped.
     pub track_historical_votes: bool,
-    /// How many views are finalized between two rewrites of a record on two disks. With 0 it is rewritten at the end of the input alone.
+    /// How many views are finalized between two rewrites of a record on two disks. With 0 at the end of the input alone.
     pub rewrite_views: u64,
 }
 
