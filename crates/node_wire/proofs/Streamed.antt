@@ -203,12 +203,12 @@ module _ {S D P G C N : Type 0} (steps : N → Event D → Result (Reply S D P G
         }
 
         -- no event was taken, for this reason
-        pub ends_unread : {A : Type 0} (Fails : List (Event D) → List (Reply S D P G C) → Event D → NodeFault → Type 0) (why : IoFault) (Now Failed : Type 0) → (Now → Failed)
-            → IsFault state.place (IsGivenUp state Now) (IfSome left (HasNone q)) why → EndsIn F p w {A = A} q Answered Fails Failed (Err why) given text more
+        pub ends_unread : {A : Type 0} (Failing : List (Event D) → List (Reply S D P G C) → Event D → NodeFault → Type 0) (why : IoFault) (Now Failed : Type 0) → (Now → Failed)
+            → IsFault state.place (IsGivenUp state Now) (IfSome left (HasNone q)) why → EndsIn F p w {A = A} q Answered Failing Failed (Err why) given text more
         unfolding ends_front
-        ends_unread Fails fault.Read Now Failed turn is = ends_given_up Now Failed turn is
-        ends_unread Fails fault.Write Now Failed turn is = absurd is
-        ends_unread Fails (fault.BadEvent at) Now Failed turn is = record {
+        ends_unread Failing fault.Read Now Failed turn is = ends_given_up Now Failed turn is
+        ends_unread Failing fault.Write Now Failed turn is = absurd is
+        ends_unread Failing (fault.BadEvent at) Now Failed turn is = record {
           events = so_far.events;
           few = are_few;
           read = subst (λ (n : ℕ). IfSome given (λ bytes. AreEvents F p q bytes (map event_value so_far.events) (Some n))) (sym is.0) (none_behind F p q given left state.place so_far.events so_far.stands.taken is.1);
@@ -216,8 +216,8 @@ module _ {S D P G C N : Type 0} (steps : N → Event D → Result (Reply S D P G
           answered = so_far.answered;
           written = so_far.stands.written;
         }
-        ends_unread Fails (fault.Node x) Now Failed turn is = absurd is
-        ends_unread Fails fault.Memory Now Failed turn is = inl (ends_front, are_few)
+        ends_unread Failing (fault.Node x) Now Failed turn is = absurd is
+        ends_unread Failing fault.Memory Now Failed turn is = inl (ends_front, are_few)
 
     module _ (before : List (Event D)) (said : List (Reply S D P G C)) (old mid new : N) (given left rest : Option (List ℕ)) (state after : InputState) (text now more : Option (List ℕ)) (event : Event D)
         (so_far : StopsAmid F p w (Behind before said (Answer steps old mid)) given left state text now) (took : IsTaken F p (event_value event) state left after rest) where

@@ -22,6 +22,7 @@ pub trait Pause<N> {
 }
 
 /// It is never to pause.
+#[derive(Drop)]
 pub(crate) struct Never;
 
 impl<N> Pause<N> for Never {

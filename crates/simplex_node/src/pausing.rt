@@ -9,6 +9,7 @@ use types_core::{Digest, Scheme, View};
 use types_terms::Elector;
 
 /// It is to pause once this view, or one above it, is final.
+#[derive(Drop)]
 pub(crate) struct OnceFinal {
     pub(crate) view: View,
 }
