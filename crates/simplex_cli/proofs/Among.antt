@@ -14,7 +14,9 @@ use Rattle.journal_books.specs.BooksLaws.{book_leaves, left_last}
 use Rattle.simplex_member.specs.declared.action.Reply.{Reply}
 use Rattle.simplex_member.specs.declared.event.Event.{Event}
 use Rattle.simplex_member.specs.declared.fault.IoFault.{IoFault}
+use Rattle.simplex_member.specs.declared.fault.IoFault.TheVariants as fault
 use Rattle.simplex_member.specs.declared.fault.NodeFault.{NodeFault}
+use Rattle.types_codec.specs.Front.{AppendsFront}
 use Rattle.simplex_member.specs.Member.{IsReached, NoneDue, ReadsAsKept, Run}
 use Rattle.simplex_member.specs.Packet.{Formats}
 use Rattle.simplex_member.specs.Point.{History, Rewrote}
@@ -38,6 +40,14 @@ use Rattle.simplex_cli.specs.declared.ending.Ending.{Ending}
 use Rattle.simplex_cli.specs.Rewriting.{AnswersAmong, EndsAmong, FailsAmong, MayBeRewritten, RunRewriting, RunsAmong, ServesAmong, ServesRewriting}
 use Rattle.simplex_cli.specs.Serving.{IsLeftBehind}
 use Rattle.simplex_cli.proofs.Left.{none_due_behind}
+
+-- a run that ended before its input
+abbrev broken_off : IoFault → Result Stretch IoFault
+broken_off why = Err why
+
+is_broken_off : (why : IoFault) → (why ≡ fault.Memory) ⊎ (why ≡ fault.Write) → (broken_off why ≡ Err fault.Memory) ⊎ (broken_off why ≡ Err fault.Write)
+is_broken_off why (inl is) = inl (ap broken_off is)
+is_broken_off why (inr is) = inr (ap broken_off is)
 
 module _ {S D P G C : Type 0} (g : Ghosts S D P G C) (f : Formats S D P G C) (s : Setup S D C) where
   -- a run, and one behind it
@@ -203,3 +213,11 @@ module _ {S L D P G C K : Type 0} (g : Ghosts S D P G C) (e : elector.Ghosts L S
     serves_rewriting Readable brought on left now node first ReadFailed r given text mid more taken settled whole many serves =
         let this = serves settled.end settled.keeps settled.opens.rests.none_due in
         (this.0, subst (λ (two : Bool). EndsAmong this.0 two r) many this.1, record { found = settled.found; founded = settled.founded; are_found = settled.are.are_found; appends = settled.are.appended.appends; first = first; taken = taken; end = settled.end; opens = settled.opens; starts = inl (mid, whole, this.2) })
+
+    -- of which only a front was
+    pub serves_not : (Readable : Artifact S D P G C → Type 0) (brought : Option (Finalization S D P G C)) (on left : Disks K) (now : ℕ) (node : Node S L D K P G C) (first : Reply S D P G C) (ReadFailed : Type 0) (why : IoFault) (given text more : Option (List ℕ))
+        → first.refused ≡ None → IsOpenAndSettled g e k f s Readable brought on now node first.actions.items → (why ≡ fault.Memory) ⊎ (why ≡ fault.Write) → AppendsFront text more (w first)
+        → ((h : History S D P G C) → NodeKeeps g e k f s node h → k.keeps → (read : List (List ℕ)) → MayBeRead k left read → ReadsAsKept g f s read h)
+        → ServesRewriting g k f s F p w q Readable brought on left now ReadFailed (broken_off why) given text more
+    serves_not Readable brought on left now node first ReadFailed why given text more taken settled faults front kept =
+        record { found = settled.found; founded = settled.founded; are_found = settled.are.are_found; appends = settled.are.appended.appends; first = first; taken = taken; end = settled.end; opens = settled.opens; starts = inr (is_broken_off why faults, front, kept settled.end settled.keeps) }
