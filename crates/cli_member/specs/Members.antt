@@ -40,7 +40,7 @@ module _ {S D P G C K : Type 0} (g : Ghosts S D P G C) (k : disk.Ghosts K) (f : 
   abbrev pub RunsBy : ℕ → Setup S D C → (Artifact S D P G C → Type 0) → Disks K → Disks K → ℕ → Type 0 → Result ⊤ Ending → Option (List ℕ) → Option (List ℕ) → Option (List ℕ) → Type 0
   RunsBy views member Readable on left now ReadFailed ended given old new = MatchZero views
       ((io : Result ⊤ IoFault) × EndsAs io (are_two on) ended × ServesOver g k f member F p w q Readable None on left now ReadFailed io given old new)
-      ((io : Result Stretch IoFault) × EndsAmong io (are_two on) ended × ServesRewriting g k f member F p w q Readable None on left now ReadFailed io given old new)
+      ((io : Result Stretch IoFault) × EndsAmong io (are_two on) ended × ServesRewriting g k f member F p w q views Readable None on left now ReadFailed io given old new)
 
   -- a program that starts from the payload of view 0 opened no record, or had no memory for what that takes, and then its output is
   -- untouched; or it opened one of a member that goes by the leaders of this committee, and ran a node over streams, at whose end it ended

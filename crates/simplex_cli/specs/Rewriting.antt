@@ -1,5 +1,5 @@
 -- What a program comes to that rewrites its record while it runs.
-use Rattle.std.specs.Prelude.{◌≡◌, ◌⊎◌, ◌++◌, ℕ, Bool, List, [], ◌∷◌, Option, None, Some, Result, Ok, Err, ⊤}
+use Rattle.std.specs.Prelude.{◌≡◌, ◌⊎◌, ◌++◌, ◌≤◌, ◌+◌, ◌-◌, ◌^◌, min, ℕ, Bool, List, [], ◌∷◌, Option, None, Some, Result, Ok, Err, ⊤}
 use Rattle.std.specs.Io.KnownBytes.{Appends}
 use Rattle.types_codec.specs.declared.codec.CodecError.{CodecError}
 use Rattle.types_codec.specs.Front.{AppendsFront}
@@ -16,6 +16,7 @@ use Rattle.simplex_member.specs.declared.event.Event.{Event}
 use Rattle.simplex_member.specs.declared.fault.IoFault.{IoFault}
 use Rattle.simplex_member.specs.declared.fault.IoFault.TheVariants as fault
 use Rattle.simplex_member.specs.declared.fault.NodeFault.{NodeFault}
+use Rattle.simplex_member.specs.Layers.{finalized_of}
 use Rattle.simplex_member.specs.Member.{AppendsFloor, IsReached, IsRewritten, NoneDue, Opens, ReadsAsKept, Steps}
 use Rattle.simplex_member.specs.Packet.{Formats}
 use Rattle.simplex_member.specs.Point.{History, Rewrote}
@@ -39,41 +40,48 @@ EndsAmong (Ok Ended) two ended = EndsAs (Ok tt) two ended
 
 module _ {S D P G C : Type 0} (g : Ghosts S D P G C) (f : Formats S D P G C) (s : Setup S D C) where
   -- a run between whose steps the record is rewritten: of these turns each that names none is the step over the next event, with its reply,
-  -- and each other a rewrite behind that finalization, which hands nothing out
-  abbrev pub RunRewriting : History S D P G C → List (Option (Finalization S D P G C)) → List (Event D) → List (Reply S D P G C) → History S D P G C → Type 0
-  RunRewriting h [] [] [] end = end ≡ h
-  RunRewriting h (None ∷ turns) (e ∷ events) (reply ∷ replies) end = (mid : History S D P G C) × Steps g f s h e reply mid × RunRewriting mid turns events replies end
-  RunRewriting h (Some c ∷ turns) events replies end = IsRewritten g f s h c × RunRewriting (Rewrote c ∷ h) turns events replies end
-  RunRewriting h turns events replies end = ⊥
+  -- and each other a rewrite behind that finalization, which hands nothing out. It is made where since the last, or the start, so many
+  -- views became final, or the last that there is did; at the start this one was, and at the last rewrite that one
+  abbrev pub RunRewriting : ℕ → ℕ → History S D P G C → List (Option (Finalization S D P G C)) → List (Event D) → List (Reply S D P G C) → ℕ → History S D P G C → Type 0
+  RunRewriting views low h [] [] [] last end = (last ≡ low) × (end ≡ h)
+  RunRewriting views low h (None ∷ turns) (e ∷ events) (reply ∷ replies) last end = (mid : History S D P G C) × Steps g f s h e reply mid × RunRewriting views low mid turns events replies last end
+  RunRewriting views low h (Some c ∷ turns) events replies last end =
+      (min (low + views) (2 ^ 64 - 1) ≤ finalized_of s h) × IsRewritten g f s h c × RunRewriting views (finalized_of s (Rewrote c ∷ h)) (Rewrote c ∷ h) turns events replies last end
+  RunRewriting views low h turns events replies last end = ⊥
 
   -- the record is rewritten, or left as it is
   abbrev pub MayBeRewritten : History S D P G C → History S D P G C → Type 0
   MayBeRewritten h end = (end ≡ h) ⊎ ((c : Finalization S D P G C) × IsRewritten g f s h c × (end ≡ Rewrote c ∷ h))
 
 -- by the node that is left
-module _ {S L D P G C K : Type 0} (g : Ghosts S D P G C) (e : elector.Ghosts L S D P G C) (k : disk.Ghosts K) (f : Formats S D P G C) (s : Setup S D C) (node : Node S L D K P G C) where
-  -- a run with rewrites over these events comes to these replies, and the node stands where it led, where nothing is due
+module _ {S L D P G C K : Type 0} (g : Ghosts S D P G C) (e : elector.Ghosts L S D P G C) (k : disk.Ghosts K) (f : Formats S D P G C) (s : Setup S D C) (views : ℕ) (node : Node S L D K P G C) where
+  -- a run with rewrites so many views apart comes over these events to these replies, and the node stands where it led, where nothing is due,
+  -- and no lower view is final than at the last rewrite
   pub record RunsAmong (h : History S D P G C) (events : List (Event D)) (replies : List (Reply S D P G C)) : Type 0 where
     pub turns : List (Option (Finalization S D P G C))
+    pub last : ℕ
     pub end : History S D P G C
-    pub run : RunRewriting g f s h turns events replies end
+    pub run : RunRewriting g f s views (finalized_of s h) h turns events replies last end
+    pub since : last ≤ finalized_of s end
     pub keeps : NodeKeeps g e k f s node end
     pub none_due : NoneDue g f s end
 
--- by the disks that are left
-module _ {S D P G C K : Type 0} (g : Ghosts S D P G C) (k : disk.Ghosts K) (f : Formats S D P G C) (s : Setup S D C) (left : Disks K) where
+-- by how many views lie between two rewrites, and the disks that are left
+module _ {S D P G C K : Type 0} (g : Ghosts S D P G C) (k : disk.Ghosts K) (f : Formats S D P G C) (s : Setup S D C) (views : ℕ) (left : Disks K) where
   -- a member may answer these events by these replies, with rewrites between, and then this may be read of its disks, after a crash too
   pub record AnswersAmong (io : Result Stretch IoFault) (h : History S D P G C) (events : List (Event D)) (replies : List (Reply S D P G C)) : Type 0 where
     pub turns : List (Option (Finalization S D P G C))
+    pub last : ℕ
     pub end : History S D P G C
-    pub run : RunRewriting g f s h turns events replies end
+    pub run : RunRewriting g f s views (finalized_of s h) h turns events replies last end
     pub leaves : k.keeps → (read : List (List ℕ)) → MayBeRead k left read → IsLeftBehind g f s io (are_two left) end read
 
   -- it may, and its step over the event behind them fails: of its disks may be read what is kept at a point of that
   pub record FailsAmong (h : History S D P G C) (events : List (Event D)) (replies : List (Reply S D P G C)) (event : Event D) (why : NodeFault) : Type 0 where
     pub turns : List (Option (Finalization S D P G C))
+    pub last : ℕ
     pub end : History S D P G C
-    pub run : RunRewriting g f s h turns events replies end
+    pub run : RunRewriting g f s views (finalized_of s h) h turns events replies last end
     pub leaves : k.keeps → (read : List (List ℕ)) → MayBeRead k left read → IsReached g f s end event read
 
   module _ (F : D → Type 0) (p : D → List ℕ) (w : Reply S D P G C → List ℕ) (q : List ℕ → Result (D × List ℕ) CodecError) where
@@ -94,7 +102,7 @@ module _ {S D P G C K : Type 0} (g : Ghosts S D P G C) (k : disk.Ghosts K) (f : 
     (F : D → Type 0) (p : D → List ℕ) (w : Reply S D P G C → List ℕ) (q : List ℕ → Result (D × List ℕ) CodecError) where
   -- a record was opened over what was found on disks, with the finalization behind it that the opening brings, if it does, and what that
   -- hands out was written as the first reply
-  pub record ServesRewriting (Readable : Artifact S D P G C → Type 0) (brought : Option (Finalization S D P G C)) (on left : Disks K) (now : ℕ) (ReadFailed : Type 0) (io : Result Stretch IoFault) (given old new : Option (List ℕ)) : Type 0 where
+  pub record ServesRewriting (views : ℕ) (Readable : Artifact S D P G C → Type 0) (brought : Option (Finalization S D P G C)) (on left : Disks K) (now : ℕ) (ReadFailed : Type 0) (io : Result Stretch IoFault) (given old new : Option (List ℕ)) : Type 0 where
     pub found : List (Artifact S D P G C)
     pub founded : List (Artifact S D P G C)
     pub are_found : AreFoundOn k f.artifact Readable on found
@@ -103,4 +111,4 @@ module _ {S D P G C K : Type 0} (g : Ghosts S D P G C) (k : disk.Ghosts K) (f : 
     pub taken : first.refused ≡ None
     pub end : History S D P G C
     pub opens : Opens g f s now (found ++ founded) first.actions.items end
-    pub starts : StartsAmong g k f s left F p w q end first ReadFailed io given old new
+    pub starts : StartsAmong g k f s views left F p w q end first ReadFailed io given old new

@@ -63,7 +63,7 @@ pub fn serve_rewriting<
         ⟦<S as Speaks<D>>⟧.readable config scheme.value disks now why result.1) ⊎ ((io : Result Stretch IoFault) × (index : ℕ) ×
         EndsAmong io (are_two disks) result.0 × (S.own scheme.value ≡ Some index) × ServesRewriting S.Scheme K.Disk
         (⟦<S as Speaks<D>>⟧.formats (S.size scheme.value)) (setup_of S.Scheme L.Elector config scheme.value elector index) D.fits D.spelling
-        (spelled S.PublicKey.spelling D.spelling S.Signature.spelling S.Certificate.spelling) (D.reading 65535) ⟦<S as Speaks<D>>⟧.readable
+        (spelled S.PublicKey.spelling D.spelling S.Signature.spelling S.Certificate.spelling) (D.reading 65535) views ⟦<S as Speaks<D>>⟧.readable
         (brought_by config.floor) disks result.1 now (R.failed input.new ≡ counted false (R.failed input.old)) io (R.remaining input.old)
         (W.contents output.old) (W.contents output.new)) }
     ensures as_many { are_two result.1 ≡ are_two disks }
@@ -89,7 +89,7 @@ fn serve<S: Scheme<D> + Drop, L: Elector<S, D>, D: Digest, K: Disk, R: Source, W
         (W.is_flushed output.old) (W.is_flushed output.new) }
     ensures serves { AtOwn S.Scheme L.Elector K.Disk ⟦<S as Speaks<D>>⟧.formats node (λ f s h.
         NoneDue S.Scheme f s h → (io : Result Stretch IoFault) × EndsAmong io (are_two (disks_of node)) result.0 × ServesAmong S.Scheme K.Disk
-        f s result.1 D.fits D.spelling (spelled S.PublicKey.spelling D.spelling S.Signature.spelling S.Certificate.spelling)
+        f s views result.1 D.fits D.spelling (spelled S.PublicKey.spelling D.spelling S.Signature.spelling S.Certificate.spelling)
         (D.reading 65535) h (R.failed input.new ≡ counted false (R.failed input.old)) io (R.remaining input.old) (W.contents output.old)
         (W.contents output.new)) }
     ensures as_many { are_two result.1 ≡ are_two (disks_of node) }

@@ -16,7 +16,7 @@ returns-in-Ok-written-clause-serves g c =
     let this =
     serves_rewriting g.S.Scheme g.L.Elector g.K.Disk
     (formats {S = g.row.S.Denot} {P = g.row.S-PublicKey.Denot} g.D.PartialEq.eq g.D.Write.spelling g.S.Signature.Write.spelling g.S.Certificate.Write.spelling g.D.Read.reading g.S.Signature.Read.reading g.S.Certificate.Read.reading (g.S.Scheme.size c.args.scheme.value))
-    s g.D.Write.fits g.D.Write.spelling (spelled g.S.PublicKey.Write.spelling g.D.Write.spelling g.S.Signature.Write.spelling g.S.Certificate.Write.spelling) (g.D.Read.reading 65535)
+    s g.D.Write.fits g.D.Write.spelling (spelled g.S.PublicKey.Write.spelling g.D.Write.spelling g.S.Signature.Write.spelling g.S.Certificate.Write.spelling) (g.D.Read.reading 65535) c.args.views
     _ (brought_by c.args.config.floor) c.args.disks c.serve.result.1 c.args.now c.in-Ok.node opened.1 _ c.serve.result.0 _ _ _ _ opened.3 opened.5 whole c.in-Ok.ensures.as_many (c.serve.ensures.serves s) in
     inr (this.0, opened.0, this.1, opened.2, this.2)
 
@@ -28,7 +28,7 @@ returns-in-Err-written-clause-serves g c =
     let this =
     serves_not g.S.Scheme g.L.Elector g.K.Disk
     (formats {S = g.row.S.Denot} {P = g.row.S-PublicKey.Denot} g.D.PartialEq.eq g.D.Write.spelling g.S.Signature.Write.spelling g.S.Certificate.Write.spelling g.D.Read.reading g.S.Signature.Read.reading g.S.Certificate.Read.reading (g.S.Scheme.size c.args.scheme.value))
-    s g.D.Write.fits g.D.Write.spelling (spelled g.S.PublicKey.Write.spelling g.D.Write.spelling g.S.Signature.Write.spelling g.S.Certificate.Write.spelling) (g.D.Read.reading 65535)
+    s g.D.Write.fits g.D.Write.spelling (spelled g.S.PublicKey.Write.spelling g.D.Write.spelling g.S.Signature.Write.spelling g.S.Certificate.Write.spelling) (g.D.Read.reading 65535) c.args.views
     _ (brought_by c.args.config.floor) c.args.disks c.into_disks.result c.args.now c.in-Ok.node opened.1 _ c.in-Err-written.fault (g.R.Source.remaining c.args.input.now) _ _ opened.3 opened.5 faults opened.4.front
     (c.into_disks.ensures.left s) in
     inr (Err c.in-Err-written.fault, opened.0, ap Err c.of.ensures, opened.2, this)
