@@ -122,22 +122,22 @@ module _ {S D P G C N : Type 0} (steps : N → Event D → Result (Reply S D P G
     }
 
     -- whatever ended it while no event was at hand, no step failed
-    pub steps_unread : {A : Type 0} (old new : N) (from : InputState) (given left : Option (List ℕ)) (state : InputState) (text more : Option (List ℕ)) (why : IoFault) (X Y : Type 0) → StreamsOn old from given left state text more new
+    pub steps_unread : (A : Type 0) (old new : N) (from : InputState) (given left : Option (List ℕ)) (state : InputState) (text more : Option (List ℕ)) (why : IoFault) (X Y : Type 0) → StreamsOn old from given left state text more new
         → IsFault state.place X Y why → StepsOver F p {A = A} (Answer steps old new) (AnswerBefore steps old new) (Err why) given
     unfolding steps_some
-    steps_unread old new from given left state text more fault.Read X Y so_far is = steps_some old new from given left state text more so_far
-    steps_unread old new from given left state text more fault.Write X Y so_far is = absurd is
-    steps_unread old new from given left state text more (fault.BadEvent at) X Y so_far is = steps_some old new from given left state text more so_far
-    steps_unread old new from given left state text more (fault.Node x) X Y so_far is = absurd is
-    steps_unread old new from given left state text more fault.Memory X Y so_far is = steps_some old new from given left state text more so_far
+    steps_unread A old new from given left state text more fault.Read X Y so_far is = steps_some old new from given left state text more so_far
+    steps_unread A old new from given left state text more fault.Write X Y so_far is = absurd is
+    steps_unread A old new from given left state text more (fault.BadEvent at) X Y so_far is = steps_some old new from given left state text more so_far
+    steps_unread A old new from given left state text more (fault.Node x) X Y so_far is = absurd is
+    steps_unread A old new from given left state text more fault.Memory X Y so_far is = steps_some old new from given left state text more so_far
 
     -- and where the event that was taken last wasn't answered whole
-    pub steps_unanswered : {A B : Type 0} (old mid new : N) (from : InputState) (given left rest : Option (List ℕ)) (state after : InputState) (text now more : Option (List ℕ)) (event : Event D) (why : IoFault) → StreamsOn old from given left state text now mid
+    pub steps_unanswered : (A B : Type 0) (old mid new : N) (from : InputState) (given left rest : Option (List ℕ)) (state after : InputState) (text now more : Option (List ℕ)) (event : Event D) (why : IoFault) → StreamsOn old from given left state text now mid
         → IsTaken F p (event_value event) state left after rest → AnswersOne steps {A = B} w mid event (Err why) now more new → StepsOver F p {A = A} (Answer steps old new) (AnswerBefore steps old new) (Err why) given
-    steps_unanswered old mid new from given left rest state after text now more event fault.Read so_far took came = absurd came
-    steps_unanswered old mid new from given left rest state after text now more event fault.Write so_far took (reply, step, front) = steps_more old mid new from given left rest state after text now event reply so_far took step
-    steps_unanswered old mid new from given left rest state after text now more event (fault.BadEvent at) so_far took came = absurd came
-    steps_unanswered old mid new from given left rest state after text now more event (fault.Node x) so_far took (failed, kept) = record {
+    steps_unanswered A B old mid new from given left rest state after text now more event fault.Read so_far took came = absurd came
+    steps_unanswered A B old mid new from given left rest state after text now more event fault.Write so_far took (reply, step, front) = steps_more old mid new from given left rest state after text now event reply so_far took step
+    steps_unanswered A B old mid new from given left rest state after text now more event (fault.BadEvent at) so_far took came = absurd came
+    steps_unanswered A B old mid new from given left rest state after text now more event (fault.Node x) so_far took (failed, kept) = record {
       events = so_far.events;
       event = event;
       read = front_of given rest (so_far.events ++ event ∷ []) (each_append F p so_far.events (event ∷ []) so_far.each (All-cons (IsEvent F) (event_value event) [] took.event (All-nil (IsEvent F))))
@@ -145,7 +145,7 @@ module _ {S D P G C N : Type 0} (steps : N → Event D → Result (Reply S D P G
       replies = so_far.replies;
       failed = record { before = mid; answer = so_far.answered; failed = failed };
     }
-    steps_unanswered old mid new from given left rest state after text now more event fault.Memory so_far took (reply, step, kept) = steps_more old mid new from given left rest state after text now event reply so_far took step
+    steps_unanswered A B old mid new from given left rest state after text now more event fault.Memory so_far took (reply, step, kept) = steps_more old mid new from given left rest state after text now event reply so_far took step
 
     -- behind those that were answered before
     pub stops_amid : (before : List (Event D)) (said : List (Reply S D P G C)) (old new : N) (from : InputState) (given amid left : Option (List ℕ)) (state : InputState) (text mid more : Option (List ℕ))
@@ -203,12 +203,12 @@ module _ {S D P G C N : Type 0} (steps : N → Event D → Result (Reply S D P G
         }
 
         -- no event was taken, for this reason
-        pub ends_unread : {A : Type 0} (Failing : List (Event D) → List (Reply S D P G C) → Event D → NodeFault → Type 0) (why : IoFault) (Now Failed : Type 0) → (Now → Failed)
+        pub ends_unread : (A : Type 0) (Failing : List (Event D) → List (Reply S D P G C) → Event D → NodeFault → Type 0) (why : IoFault) (Now Failed : Type 0) → (Now → Failed)
             → IsFault state.place (IsGivenUp state Now) (IfSome left (HasNone q)) why → EndsIn F p w {A = A} q Answered Failing Failed (Err why) given text more
         unfolding ends_front
-        ends_unread Failing fault.Read Now Failed turn is = ends_given_up Now Failed turn is
-        ends_unread Failing fault.Write Now Failed turn is = absurd is
-        ends_unread Failing (fault.BadEvent at) Now Failed turn is = record {
+        ends_unread A Failing fault.Read Now Failed turn is = ends_given_up Now Failed turn is
+        ends_unread A Failing fault.Write Now Failed turn is = absurd is
+        ends_unread A Failing (fault.BadEvent at) Now Failed turn is = record {
           events = so_far.events;
           few = are_few;
           read = subst (λ (n : ℕ). IfSome given (λ bytes. AreEvents F p q bytes (map event_value so_far.events) (Some n))) (sym is.0) (none_behind F p q given left state.place so_far.events so_far.stands.taken is.1);
@@ -216,8 +216,8 @@ module _ {S D P G C N : Type 0} (steps : N → Event D → Result (Reply S D P G
           answered = so_far.answered;
           written = so_far.stands.written;
         }
-        ends_unread Failing (fault.Node x) Now Failed turn is = absurd is
-        ends_unread Failing fault.Memory Now Failed turn is = inl (ends_front, are_few)
+        ends_unread A Failing (fault.Node x) Now Failed turn is = absurd is
+        ends_unread A Failing fault.Memory Now Failed turn is = inl (ends_front, are_few)
 
     module _ (before : List (Event D)) (said : List (Reply S D P G C)) (old mid new : N) (given left rest : Option (List ℕ)) (state after : InputState) (text now more : Option (List ℕ)) (event : Event D)
         (so_far : StopsAmid F p w (Behind before said (Answer steps old mid)) given left state text now) (took : IsTaken F p (event_value event) state left after rest) where
@@ -266,13 +266,13 @@ module _ {S D P G C N : Type 0} (steps : N → Event D → Result (Reply S D P G
       }
 
       -- what came of that event, where its reply was not written whole
-      pub ends_unanswered : {A B : Type 0} (q : List ℕ → Result (D × List ℕ) CodecError) (Failed : Type 0) (why : IoFault) → AnswersOne steps {A = B} w mid event (Err why) now more new
+      pub ends_unanswered : (A B : Type 0) (q : List ℕ → Result (D × List ℕ) CodecError) (Failed : Type 0) (why : IoFault) → AnswersOne steps {A = B} w mid event (Err why) now more new
           → EndsIn F p w {A = A} q (Behind before said (Answer steps old new)) (FailsBehind before said (AnswerBefore steps old new)) Failed (Err why) given text more
-      ends_unanswered q Failed fault.Read came = absurd came
-      ends_unanswered q Failed fault.Write (reply, step, (front, behind, split, written)) = broken reply step front behind split written
-      ends_unanswered q Failed (fault.BadEvent at) came = absurd came
-      ends_unanswered q Failed (fault.Node x) (failed, kept) = failed_last x failed kept
-      ends_unanswered q Failed fault.Memory (reply, step, kept) = inr (lost reply step kept)
+      ends_unanswered A B q Failed fault.Read came = absurd came
+      ends_unanswered A B q Failed fault.Write (reply, step, (front, behind, split, written)) = broken reply step front behind split written
+      ends_unanswered A B q Failed (fault.BadEvent at) came = absurd came
+      ends_unanswered A B q Failed (fault.Node x) (failed, kept) = failed_last x failed kept
+      ends_unanswered A B q Failed fault.Memory (reply, step, kept) = inr (lost reply step kept)
 
 module _ {S D P G C : Type 0} (F : D → Type 0) (p : D → List ℕ) (w : Reply S D P G C → List ℕ) (q : List ℕ → Result (D × List ℕ) CodecError) where
   module _ (Answered : List (Event D) → List (Reply S D P G C) → Type 0) (Failed : List (Event D) → List (Reply S D P G C) → Event D → NodeFault → Type 0) (ReadFailed : Type 0) where

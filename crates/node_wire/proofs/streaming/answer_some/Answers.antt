@@ -86,11 +86,11 @@ returns-in-Err-clause-answers g c = λ given text before said stands.
     (Behind before said (Answer g.T.Stepper.steps c.args.node.now c.loop-alloc.node)) given (left_of c.loop-alloc.input (g.R.Source.remaining c.loop-alloc.reader)) c.loop-alloc.input text (g.W.Sink.contents c.loop-alloc.writer)
     (stops_amid g.T.Stepper.steps g.D.Write.fits g.D.Write.spelling (spelled g.S.PublicKey.Write.spelling g.D.Write.spelling g.S.Signature.Write.spelling g.S.Certificate.Write.spelling) before said
     c.args.node.now c.loop-alloc.node c.args.input.now given (left_of c.args.input.now (g.R.Source.remaining c.args.reader.now)) (left_of c.loop-alloc.input (g.R.Source.remaining c.loop-alloc.reader)) c.loop-alloc.input text (g.W.Sink.contents c.args.writer.now) (g.W.Sink.contents c.loop-alloc.writer) stands c.loop-alloc.invariant.so_far)
-    (g.D.Read.reading 65535) (c.is_spent.ensures.unspent (cc)) {A = ℕ} (FailsBehind before said (AnswerBefore g.T.Stepper.steps c.args.node.now c.loop-alloc.node)) c.in-Err.fault _ _
+    (g.D.Read.reading 65535) (c.is_spent.ensures.unspent (cc)) ℕ (FailsBehind before said (AnswerBefore g.T.Stepper.steps c.args.node.now c.loop-alloc.node)) c.in-Err.fault _ _
     (λ is. is ∙ ap (counted false) c.loop-alloc.invariant.read) c.in-Err.ensures.fault
 
 pub returns-in-Err-clause-steps : goal.returns-in-Err-clause-steps
-returns-in-Err-clause-steps g c = steps_unread g.T.Stepper.steps g.D.Write.fits g.D.Write.spelling (spelled g.S.PublicKey.Write.spelling g.D.Write.spelling g.S.Signature.Write.spelling g.S.Certificate.Write.spelling) {A = ℕ}
+returns-in-Err-clause-steps g c = steps_unread g.T.Stepper.steps g.D.Write.fits g.D.Write.spelling (spelled g.S.PublicKey.Write.spelling g.D.Write.spelling g.S.Signature.Write.spelling g.S.Certificate.Write.spelling) ℕ
     c.args.node.now c.loop-alloc.node c.args.input.now (left_of c.args.input.now (g.R.Source.remaining c.args.reader.now)) (left_of c.loop-alloc.input (g.R.Source.remaining c.loop-alloc.reader)) c.loop-alloc.input (g.W.Sink.contents c.args.writer.now) (g.W.Sink.contents c.loop-alloc.writer) c.in-Err.fault _ _
     c.loop-alloc.invariant.so_far c.in-Err.ensures.fault
 
@@ -103,12 +103,12 @@ returns-in-Err-answer-clause-answers g c = λ given text before said stands.
     text (g.W.Sink.contents c.loop-alloc.writer) (g.W.Sink.contents c.answer.new.writer) c.in-Some.event
     (stops_amid g.T.Stepper.steps g.D.Write.fits g.D.Write.spelling (spelled g.S.PublicKey.Write.spelling g.D.Write.spelling g.S.Signature.Write.spelling g.S.Certificate.Write.spelling) before said
     c.args.node.now c.loop-alloc.node c.args.input.now given (left_of c.args.input.now (g.R.Source.remaining c.args.reader.now)) (left_of c.loop-alloc.input (g.R.Source.remaining c.loop-alloc.reader)) c.loop-alloc.input text (g.W.Sink.contents c.args.writer.now) (g.W.Sink.contents c.loop-alloc.writer) stands c.loop-alloc.invariant.so_far)
-    took {A = ℕ} {B = ℕ} (g.D.Read.reading 65535) _ c.in-Err-answer.fault c.in-Err-answer.ensures.answers
+    took ℕ ℕ (g.D.Read.reading 65535) _ c.in-Err-answer.fault c.in-Err-answer.ensures.answers
 
 pub returns-in-Err-answer-clause-steps : goal.returns-in-Err-answer-clause-steps
 returns-in-Err-answer-clause-steps g c =
     let took = rw c.in-Some.is at c.in-Ok.ensures.event in
-    steps_unanswered g.T.Stepper.steps g.D.Write.fits g.D.Write.spelling (spelled g.S.PublicKey.Write.spelling g.D.Write.spelling g.S.Signature.Write.spelling g.S.Certificate.Write.spelling) {A = ℕ} {B = ℕ}
+    steps_unanswered g.T.Stepper.steps g.D.Write.fits g.D.Write.spelling (spelled g.S.PublicKey.Write.spelling g.D.Write.spelling g.S.Signature.Write.spelling g.S.Certificate.Write.spelling) ℕ ℕ
     c.args.node.now c.loop-alloc.node c.answer.new.node c.args.input.now (left_of c.args.input.now (g.R.Source.remaining c.args.reader.now)) (left_of c.loop-alloc.input (g.R.Source.remaining c.loop-alloc.reader)) (left_of c.next_event.new.self (g.R.Source.remaining c.next_event.new.reader)) c.loop-alloc.input c.next_event.new.self
     (g.W.Sink.contents c.args.writer.now) (g.W.Sink.contents c.loop-alloc.writer) (g.W.Sink.contents c.answer.new.writer) c.in-Some.event c.in-Err-answer.fault c.loop-alloc.invariant.so_far took c.in-Err-answer.ensures.answers
 
