@@ -1,4 +1,4 @@
-use Rattle.std.proofs.Common.{◌≡◌, ℕ, [], refl, ap, ◌∙◌, true}
+use Rattle.std.proofs.Common.{◌≡◌, [], ap, ◌∙◌, true}
 use Rattle.std.specs.Prelude.{Err, Ok, false, ⊤}
 use Rattle.std.proofs.KnownBytes.{prepend_known-nil}
 use Rattle.node_wire.specs.Stream.{left_of}
