@@ -15,7 +15,7 @@ use Rattle.simplex_member.specs.declared.fault.NodeFault.{NodeFault}
 use Rattle.node_wire.specs.Event.{IsEvent, event_spelling, event_value}
 use Rattle.node_wire.specs.Stream.{AreEvents, HasNone, InputState, IsFault, IsGivenUp, IsTaken}
 use Rattle.types_codec.specs.Front.{AppendsFront}
-use Rattle.node_wire.specs.Amid.{AnswersSome, FailsAt, StandsBehind, StepsOver, StopsAmid, StopsIn, TakenOff, bytes_of}
+use Rattle.node_wire.specs.Amid.{AnswersSome, StandsBehind, StepsOver, StopsAmid, StopsIn, bytes_of}
 use Rattle.node_wire.specs.declared.stretch.Stretch.{Stretch}
 use Rattle.node_wire.specs.declared.stretch.Stretch.TheVariants.{Ended, Paused}
 use Rattle.node_wire.specs.Stepper.{Answer, AnswerBefore, AnswersNone, Behind, FailsBehind}
