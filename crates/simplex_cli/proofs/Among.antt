@@ -146,6 +146,7 @@ module _ {S L D P G C K : Type 0} (g : Ghosts S D P G C) (e : elector.Ghosts L S
           → last ≡ finalized_of s so_far.end → last < 2 ^ 64 → view ≡ min (last + views) (2 ^ 64 - 1) → ((end : History S D P G C) → NodeKeeps g e k f s ran end → view ≤ finalized_of s end)
           → ((end : History S D P G C) → NodeKeeps g e k f s ran end → NoneDue g f s end → (next : History S D P G C) × MayBeRewritten g f s end next × NodeKeeps g e k f s new next)
           → StopsAmid F p w (RunsAmong g e k f s views new h) given behind state text more
+      unfolding runs_stretch
       amid_next old ran new h before said given behind state text more last view so_far stops at top is reached rewrite =
           let end : History S D P G C = stops.answered.answered.end in
           let final : view ≤ finalized_of s end = reached end stops.answered.answered.keeps in
@@ -195,7 +196,7 @@ module _ {S L D P G C K : Type 0} (g : Ghosts S D P G C) (e : elector.Ghosts L S
       -- one that came to the end of the input
       pub ended_among : (old node : Node S L D K P G C) (h : History S D P G C) (before : List (Event D)) (said : List (Reply S D P G C)) (ReadFailed : Type 0) (given text more : Option (List ℕ))
           → (so_far : RunsAmong g e k f s views old h before said)
-          → ((end : History S D P G C) → NodeKeeps g e k f s node end → NoneDue g f s end → k.keeps → (read : List (List ℕ)) → MayBeRead k left read → IsLeftBehind g f s {A = Stretch} (Ok Ended) (are_two left) end read)
+          → ((end : History S D P G C) → NodeKeeps g e k f s node end → NoneDue g f s end → k.keeps → (read : List (List ℕ)) → MayBeRead k left read → IsLeftBehind {A = Stretch} g f s (Ok Ended) (are_two left) end read)
           → EndsIn F p w q (Behind before said (RunsTo g e k f s so_far.end node)) (FailsBehind before said (RunFails g e k f s so_far.end node)) ReadFailed (Ok Ended) given text more
           → ServesAmong g k f s views left F p w q h ReadFailed (Ok Ended) given text more
       ended_among old node h before said ReadFailed given text more so_far whole ends =
@@ -213,7 +214,7 @@ module _ {S L D P G C K : Type 0} (g : Ghosts S D P G C) (e : elector.Ghosts L S
       -- one behind which the rewrite failed
       pub paused_among : (old node : Node S L D K P G C) (h : History S D P G C) (before : List (Event D)) (said : List (Reply S D P G C)) (given behind : Option (List ℕ)) (state : InputState) (text more : Option (List ℕ))
           → (so_far : RunsAmong g e k f s views old h before said)
-          → ((end : History S D P G C) → NodeKeeps g e k f s node end → NoneDue g f s end → k.keeps → (read : List (List ℕ)) → MayBeRead k left read → IsLeftBehind g f s {A = Stretch} (Ok Paused) (are_two left) end read)
+          → ((end : History S D P G C) → NodeKeeps g e k f s node end → NoneDue g f s end → k.keeps → (read : List (List ℕ)) → MayBeRead k left read → IsLeftBehind {A = Stretch} g f s (Ok Paused) (are_two left) end read)
           → StopsAmid F p w (Behind before said (RunsTo g e k f s so_far.end node)) given behind state text more → AnswersFront F p w (AnswersAmong g k f s views left (Ok Paused) h) given text more
       paused_among old node h before said given behind state text more so_far whole stops =
           let b = stops.answered in

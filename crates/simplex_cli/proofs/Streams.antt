@@ -84,6 +84,7 @@ retold done (Err why) = Err why
 
 pub told_among : (io : Result Stretch IoFault) (two : Bool) (ended : Result ⊤ Ending) (read_before read_now written_before written_now : ℕ) (Was Is : Type 0) → EndsAmong io two ended
     → AreTold (ended_of io) read_before read_now written_before written_now Was Is → AreTold ended read_before read_now written_before written_now Was Is
+unfolding retold
 told_among (Err why) two ended read_before read_now written_before written_now Was Is so told = record {
   read = λ other. told.read (λ bad. other (so ∙ ap (retold tt) bad));
   write_failed = λ is. told.write_failed (ap (retold Ended) (sym so ∙ is));
