@@ -31,7 +31,7 @@ use Rattle.node_steps.specs.Rewriting.{NodeIsRewritten}
 use Rattle.node_wire.specs.declared.stretch.Stretch.{Stretch}
 use Rattle.node_wire.specs.declared.stretch.Stretch.TheVariants.{Paused, Ended}
 use Rattle.node_wire.specs.Amid.{StopsAmid}
-use Rattle.node_wire.specs.Over.{ends_as}
+use Rattle.node_wire.specs.Over.{ends_as, ends_where}
 use Rattle.node_wire.specs.OverAmid.{amid_front}
 use Rattle.node_wire.specs.Stepper.{Behind, FailsBehind}
 use Rattle.node_wire.specs.Stream.{InputState}
@@ -173,13 +173,14 @@ module _ {S L D P G C K : Type 0} (g : Ghosts S D P G C) (e : elector.Ghosts L S
       }
 
       -- one that ended before its input
-      pub broken_among : (old node : Node S L D K P G C) (h : History S D P G C) (before : List (Event D)) (said : List (Reply S D P G C)) (ReadFailed : Type 0) (why : IoFault) (given text more : Option (List ℕ))
-          → (so_far : RunsAmong g e k f s views old h before said) → left ≡ disks_of node
+      pub broken_among : (old node : Node S L D K P G C) (h : History S D P G C) (before : List (Event D)) (said : List (Reply S D P G C)) (Since ReadFailed : Type 0) (why : IoFault) (given text more : Option (List ℕ))
+          → (so_far : RunsAmong g e k f s views old h before said) → (Since → ReadFailed) → left ≡ disks_of node
           → ((end : History S D P G C) → NodeKeeps g e k f s node end → k.keeps → (read : List (List ℕ)) → MayBeRead k left read → ReadsAsKept g f s read end)
-          → EndsIn F p w {A = Stretch} q (Behind before said (RunsTo g e k f s so_far.end node)) (FailsBehind before said (RunFails g e k f s so_far.end node)) ReadFailed (Err why) given text more
+          → EndsIn F p w {A = Stretch} q (Behind before said (RunsTo g e k f s so_far.end node)) (FailsBehind before said (RunFails g e k f s so_far.end node)) Since (Err why) given text more
           → ServesAmong g k f s views left F p w q h ReadFailed (Err why) given text more
-      broken_among old node h before said ReadFailed why given text more so_far back kept ends =
-          ends_as F p w q (Behind before said (RunsTo g e k f s so_far.end node)) (FailsBehind before said (RunFails g e k f s so_far.end node)) ReadFailed (AnswersAmong g k f s views left (Err why) h) (FailsAmong g k f s views left h)
+      broken_among old node h before said Since ReadFailed why given text more so_far failed back kept ends =
+          ends_where F p w q (AnswersAmong g k f s views left (Err why) h) (FailsAmong g k f s views left h) Since {A = Stretch} ReadFailed failed (Err why) given text more
+          (ends_as F p w q (Behind before said (RunsTo g e k f s so_far.end node)) (FailsBehind before said (RunFails g e k f s so_far.end node)) Since (AnswersAmong g k f s views left (Err why) h) (FailsAmong g k f s views left h)
           (λ events replies b. answers_stretch (Err why) old node h before events said replies so_far b (kept b.answered.end b.answered.keeps))
           (λ events replies event cause b. record {
             turns = so_far.turns ++ map (λ event. None) b.later;
@@ -191,7 +192,7 @@ module _ {S L D P G C K : Type 0} (g : Ghosts S D P G C) (e : elector.Ghosts L S
                 (book_leaves k (IsReached g f s b.failed.runs.end event) f.artifact (kept_of s.voter.length b.failed.runs.end) (book_of b.failed.before) (book_of node) (b.failed.runs.keeps.core.ledger.journal keeps) (b.failed.any_moment keeps))
                 (subst (λ (on : Disks K). MayBeRead k on read) back may);
           })
-          {A = Stretch} (Err why) given text more ends
+          {A = Stretch} (Err why) given text more ends)
 
       -- one that came to the end of the input
       pub ended_among : (old node : Node S L D K P G C) (h : History S D P G C) (before : List (Event D)) (said : List (Reply S D P G C)) (ReadFailed : Type 0) (given text more : Option (List ℕ))
