@@ -1,6 +1,6 @@
 -- What a node comes to whose record is rewritten while it runs.
 use Rattle.std.proofs.Common.{arith, min, ◌≡◌, ◌≤◌, ◌<◌, ◌+◌, ◌-◌, ◌^◌, ◌⊎◌, inl, inr, sym, ap, ◌∙◌, subst, refl, append-nil, ℕ, List, [], ◌∷◌, ◌++◌, map, Bool, Option, None, Some}
-use Rattle.std.specs.Prelude.{Result, Ok, Err, IfErr, OnOk, false, true, ⊤}
+use Rattle.std.specs.Prelude.{Result, Ok, Err, false, is_ok, true, ⊤}
 use Rattle.std.specs.Io.KnownBytes.{Appends}
 use Rattle.types_codec.specs.declared.codec.CodecError.{CodecError}
 use Rattle.types_core.specs.declared.scheme.Scheme.{Ghosts}
@@ -38,6 +38,7 @@ use Rattle.node_wire.specs.Stream.{InputState}
 use Rattle.node_wire.specs.Streaming.{AnswersFront, EndsIn}
 use Rattle.simplex_node.specs.Running.{RunFails, RunsTo}
 use Rattle.simplex_cli.specs.declared.ending.Ending.{Ending}
+use Rattle.simplex_cli.specs.declared.ending.Ending.TheVariants as ending
 use Rattle.simplex_cli.specs.Rewriting.{AnswersAmong, EndsAmong, FailsAmong, MayBeRewritten, RunRewriting, RunsAmong, ServesAmong, ServesRewriting}
 use Rattle.simplex_cli.specs.Serving.{IsLeftBehind}
 use Rattle.simplex_cli.proofs.Left.{none_due_behind}
@@ -49,6 +50,11 @@ broken_off why = Err why
 is_broken_off : (why : IoFault) → (why ≡ fault.Memory) ⊎ (why ≡ fault.Write) → (broken_off why ≡ Err fault.Memory) ⊎ (broken_off why ≡ Err fault.Write)
 is_broken_off why (inl is) = inl (ap broken_off is)
 is_broken_off why (inr is) = inr (ap broken_off is)
+
+-- how a program ends over two disks where a rewrite failed behind a pause: over one none does
+pub ends_paused : (two : Bool) (why : Ending) → (cause : NodeFault) × (why ≡ ending.Step cause) → (two ≡ false → is_ok {T = ⊤} {E = Ending} (Err why) ≡ true) → EndsAmong (Ok Paused) two (Err why)
+ends_paused false why fails one = absurd (let bad : false ≡ true = one refl in cc)
+ends_paused true why (cause, is) one = (cause, ap (λ (x : Ending). Err x) is)
 
 module _ {S D P G C : Type 0} (g : Ghosts S D P G C) (f : Formats S D P G C) (s : Setup S D C) (views : ℕ) where
   -- a run, and one behind it

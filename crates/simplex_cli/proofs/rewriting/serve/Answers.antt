@@ -12,7 +12,7 @@ use Rattle.node_wire.specs.declared.stretch.Stretch.TheVariants.{Ended, Paused}
 use Rattle.node_wire.specs.OverAmid.{stands_first}
 use Rattle.node_wire.specs.Stream.{left_of as left_of_input}
 use Rattle.node_wire.specs.Streaming.{spelled}
-use Rattle.simplex_cli.proofs.Among.{amid_next, broken_among, ended_among, paused_among, runs_first}
+use Rattle.simplex_cli.proofs.Among.{amid_next, broken_among, ended_among, ends_paused, paused_among, runs_first}
 use Rattle.simplex_cli.proofs.Left.{ends_by, ends_so, ends_whole, left_of}
 use Rattle.simplex_cli.proofs.Served.{kept_still}
 use Rattle.simplex_cli.proofs.Streams.{none_broke, steps_alone, told_broken, told_fine}
@@ -45,7 +45,7 @@ loop-node-preserved g c =
           let stops = rw c.in-Ok-Paused.field-0-is at (ran.answers s was.answered.end was.answered.keeps (g.R.Source.remaining c.args.input.now) (g.W.Sink.contents c.args.output.now) was.events was.replies was.stands) in
           amid_next g.S.Scheme g.L.Elector g.K.Disk f s c.args.views g.D.Write.fits g.D.Write.spelling (spelled g.S.PublicKey.Write.spelling g.D.Write.spelling g.S.Signature.Write.spelling g.S.Certificate.Write.spelling) c.loop-node.node c.run_some_io.new.node c.shorten.new.node h was.events was.replies _ _ c.run_some_io.new.input _ _ c.last_finalized.result c.new-view.result was.answered stops
           (c.last_finalized.ensures f s was.answered.end was.answered.keeps) c.get.ensures.fits (c.new-view.ensures ∙ c.saturating_add.ensures ∙ ap (λ n. min (n + c.args.views) (2 ^ 64 - 1)) c.get.ensures.value) (λ end keeps. ran.paused pause f s end keeps)
-          (λ end keeps none. c.in-Ok-shorten.ensures.rewritten s end keeps none);
+          (λ end keeps none. c.in_default.ensures.rewritten s end keeps none);
       kind = c.shorten.ensures.as_many ∙ ran.as_many ∙ before.kind;
       read = ran.read (none_broke c.in-Ok-Paused.field-0 fault.Read) ∙ before.read;
       written = ran.write (none_broke c.in-Ok-Paused.field-0 fault.Write) ∙ before.written;
@@ -118,9 +118,9 @@ returns-in-Err-shorten-clause-serves g c = λ s h k due.
     let was = c.loop-node.invariant.so_far s h k due in
     let ran = c.in-Ok-Paused.ensures in
     let stops = rw c.in-Ok-Paused.field-0-is at (ran.answers s was.answered.end was.answered.keeps (g.R.Source.remaining c.args.input.now) (g.W.Sink.contents c.args.output.now) was.events was.replies was.stands) in
-    let fails = c.in-Err-shorten.ensures.fault in (
+    let failed = c.in-Err-shorten.ensures in (
       Ok Paused,
-      (fails.0, ap Err fails.1),
+      ends_paused (are_two (disks_of c.args.node)) c.in-Err-shorten.ending failed.fault (λ one. (failed.over_one stops.answered.answered.keeps.running (ran.as_many ∙ c.loop-node.invariant.kind ∙ one)).0),
       paused_among g.S.Scheme g.L.Elector g.K.Disk f s c.args.views g.D.Write.fits g.D.Write.spelling (spelled g.S.PublicKey.Write.spelling g.D.Write.spelling g.S.Signature.Write.spelling g.S.Certificate.Write.spelling) (g.D.Read.reading 65535) c.into_disks.result c.loop-node.node c.run_some_io.new.node h was.events was.replies _ _ c.run_some_io.new.input _ _ was.answered
           (λ end keeps none kept read may.
           left_of g.S.Scheme f s g.K.Disk {A = Stretch} (Ok Paused) (disks_of c.run_some_io.new.node) (disks_of c.shorten.new.node) c.into_disks.result end read c.into_disks.ensures.disks c.shorten.ensures.as_many
