@@ -1,5 +1,5 @@
 -- What a node comes to whose record is rewritten while it runs.
-use Rattle.std.proofs.Common.{arith, min, ◌≡◌, ◌≤◌, ◌<◌, ◌+◌, ◌-◌, ◌^◌, ◌⊎◌, inl, inr, sym, ap, ◌∙◌, subst, refl, append-nil, ℕ, List, [], ◌∷◌, ◌++◌, map, Bool, Option, None, Some}
+use Rattle.std.proofs.Common.{arith, min, ◌≡◌, ◌≤◌, ◌<◌, ◌+◌, ◌-◌, ◌^◌, ◌⊎◌, inl, inr, sym, ap, subst, refl, append-nil, ℕ, List, [], ◌∷◌, ◌++◌, map, Bool, Option, None, Some}
 use Rattle.std.specs.Prelude.{Result, Ok, Err, false, is_ok, true, ⊤}
 use Rattle.std.specs.Io.KnownBytes.{Appends}
 use Rattle.types_codec.specs.declared.codec.CodecError.{CodecError}
@@ -9,7 +9,7 @@ use Rattle.messages_certificates.specs.declared.artifact.Artifact.{Artifact}
 use Rattle.messages_certificates.specs.ProposalCertificate.{Finalization}
 use Rattle.journal_single.specs.declared.disk.Disk as disk
 use Rattle.journal_books.specs.declared.disks.Disks.{Disks}
-use Rattle.journal_books.specs.Books.{Leave, MayBeRead, are_two}
+use Rattle.journal_books.specs.Books.{MayBeRead, are_two}
 use Rattle.journal_books.specs.BooksLaws.{book_leaves, left_last}
 use Rattle.simplex_member.specs.declared.action.Reply.{Reply}
 use Rattle.simplex_member.specs.declared.event.Event.{Event}
@@ -23,7 +23,6 @@ use Rattle.simplex_member.specs.Packet.{Formats}
 use Rattle.simplex_member.specs.Point.{History, Rewrote}
 use Rattle.simplex_member.specs.Recorded.{kept_of}
 use Rattle.simplex_member.specs.Setup.{Setup}
-use Rattle.node_core.specs.Rewriting.{IsLeftByRewrite}
 use Rattle.node_steps.specs.declared.node.Node.{Node}
 use Rattle.node_steps.specs.Keeps.{NodeKeeps, book_of, disks_of}
 use Rattle.node_steps.specs.Opening.{IsOpenAndSettled}

@@ -1,4 +1,4 @@
-use Rattle.std.proofs.Common.{◌≡◌, ◌∙◌, ◌+◌, ◌-◌, ◌^◌, min, arith, refl, ap, ℕ, [], List, Option}
+use Rattle.std.proofs.Common.{◌≡◌, ◌∙◌, ◌+◌, ◌-◌, ◌^◌, min, arith, refl, ap, []}
 use Rattle.std.specs.Prelude.{Result, Ok, Err, false, ⊤}
 use Rattle.journal_single.specs.Disk.{counted}
 use Rattle.journal_books.specs.Books.{are_two}
