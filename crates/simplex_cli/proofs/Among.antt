@@ -1,6 +1,6 @@
 -- What a node comes to whose record is rewritten while it runs.
 use Rattle.std.proofs.Common.{arith, min, ◌≡◌, ◌≤◌, ◌<◌, ◌+◌, ◌-◌, ◌^◌, ◌⊎◌, inl, inr, sym, ap, ◌∙◌, subst, refl, append-nil, ℕ, List, [], ◌∷◌, ◌++◌, map, Bool, Option, None, Some}
-use Rattle.std.specs.Prelude.{Result, Ok, Err, IfErr, OnOk, false, true, ⊤}
+use Rattle.std.specs.Prelude.{Result, Ok, Err, false, is_ok, true, ⊤}
 use Rattle.std.specs.Io.KnownBytes.{Appends}
 use Rattle.types_codec.specs.declared.codec.CodecError.{CodecError}
 use Rattle.types_core.specs.declared.scheme.Scheme.{Ghosts}
@@ -31,13 +31,14 @@ use Rattle.node_steps.specs.Rewriting.{NodeIsRewritten}
 use Rattle.node_wire.specs.declared.stretch.Stretch.{Stretch}
 use Rattle.node_wire.specs.declared.stretch.Stretch.TheVariants.{Paused, Ended}
 use Rattle.node_wire.specs.Amid.{StopsAmid}
-use Rattle.node_wire.specs.Over.{ends_as}
+use Rattle.node_wire.specs.Over.{ends_as, ends_where}
 use Rattle.node_wire.specs.OverAmid.{amid_front}
 use Rattle.node_wire.specs.Stepper.{Behind, FailsBehind}
 use Rattle.node_wire.specs.Stream.{InputState}
 use Rattle.node_wire.specs.Streaming.{AnswersFront, EndsIn}
 use Rattle.simplex_node.specs.Running.{RunFails, RunsTo}
 use Rattle.simplex_cli.specs.declared.ending.Ending.{Ending}
+use Rattle.simplex_cli.specs.declared.ending.Ending.TheVariants as ending
 use Rattle.simplex_cli.specs.Rewriting.{AnswersAmong, EndsAmong, FailsAmong, MayBeRewritten, RunRewriting, RunsAmong, ServesAmong, ServesRewriting}
 use Rattle.simplex_cli.specs.Serving.{IsLeftBehind}
 use Rattle.simplex_cli.proofs.Left.{none_due_behind}
@@ -49,6 +50,11 @@ broken_off why = Err why
 is_broken_off : (why : IoFault) → (why ≡ fault.Memory) ⊎ (why ≡ fault.Write) → (broken_off why ≡ Err fault.Memory) ⊎ (broken_off why ≡ Err fault.Write)
 is_broken_off why (inl is) = inl (ap broken_off is)
 is_broken_off why (inr is) = inr (ap broken_off is)
+
+-- how a program ends over two disks where a rewrite failed behind a pause: over one none does
+pub ends_paused : (two : Bool) (why : Ending) → (cause : NodeFault) × (why ≡ ending.Step cause) → (two ≡ false → is_ok {T = ⊤} {E = Ending} (Err why) ≡ true) → EndsAmong (Ok Paused) two (Err why)
+ends_paused false why fails one = absurd (let bad : false ≡ true = one refl in cc)
+ends_paused true why (cause, is) one = (cause, ap (λ (x : Ending). Err x) is)
 
 module _ {S D P G C : Type 0} (g : Ghosts S D P G C) (f : Formats S D P G C) (s : Setup S D C) (views : ℕ) where
   -- a run, and one behind it
@@ -146,6 +152,7 @@ module _ {S L D P G C K : Type 0} (g : Ghosts S D P G C) (e : elector.Ghosts L S
           → last ≡ finalized_of s so_far.end → last < 2 ^ 64 → view ≡ min (last + views) (2 ^ 64 - 1) → ((end : History S D P G C) → NodeKeeps g e k f s ran end → view ≤ finalized_of s end)
           → ((end : History S D P G C) → NodeKeeps g e k f s ran end → NoneDue g f s end → (next : History S D P G C) × MayBeRewritten g f s end next × NodeKeeps g e k f s new next)
           → StopsAmid F p w (RunsAmong g e k f s views new h) given behind state text more
+      unfolding runs_stretch
       amid_next old ran new h before said given behind state text more last view so_far stops at top is reached rewrite =
           let end : History S D P G C = stops.answered.answered.end in
           let final : view ≤ finalized_of s end = reached end stops.answered.answered.keeps in
@@ -172,13 +179,14 @@ module _ {S L D P G C K : Type 0} (g : Ghosts S D P G C) (e : elector.Ghosts L S
       }
 
       -- one that ended before its input
-      pub broken_among : (old node : Node S L D K P G C) (h : History S D P G C) (before : List (Event D)) (said : List (Reply S D P G C)) (ReadFailed : Type 0) (why : IoFault) (given text more : Option (List ℕ))
-          → (so_far : RunsAmong g e k f s views old h before said) → left ≡ disks_of node
+      pub broken_among : (old node : Node S L D K P G C) (h : History S D P G C) (before : List (Event D)) (said : List (Reply S D P G C)) (Since ReadFailed : Type 0) (why : IoFault) (given text more : Option (List ℕ))
+          → (so_far : RunsAmong g e k f s views old h before said) → (Since → ReadFailed) → left ≡ disks_of node
           → ((end : History S D P G C) → NodeKeeps g e k f s node end → k.keeps → (read : List (List ℕ)) → MayBeRead k left read → ReadsAsKept g f s read end)
-          → EndsIn F p w {A = Stretch} q (Behind before said (RunsTo g e k f s so_far.end node)) (FailsBehind before said (RunFails g e k f s so_far.end node)) ReadFailed (Err why) given text more
+          → EndsIn F p w {A = Stretch} q (Behind before said (RunsTo g e k f s so_far.end node)) (FailsBehind before said (RunFails g e k f s so_far.end node)) Since (Err why) given text more
           → ServesAmong g k f s views left F p w q h ReadFailed (Err why) given text more
-      broken_among old node h before said ReadFailed why given text more so_far back kept ends =
-          ends_as F p w q (Behind before said (RunsTo g e k f s so_far.end node)) (FailsBehind before said (RunFails g e k f s so_far.end node)) ReadFailed (AnswersAmong g k f s views left (Err why) h) (FailsAmong g k f s views left h)
+      broken_among old node h before said Since ReadFailed why given text more so_far failed back kept ends =
+          ends_where F p w q (AnswersAmong g k f s views left (Err why) h) (FailsAmong g k f s views left h) Since {A = Stretch} ReadFailed failed (Err why) given text more
+          (ends_as F p w q (Behind before said (RunsTo g e k f s so_far.end node)) (FailsBehind before said (RunFails g e k f s so_far.end node)) Since (AnswersAmong g k f s views left (Err why) h) (FailsAmong g k f s views left h)
           (λ events replies b. answers_stretch (Err why) old node h before events said replies so_far b (kept b.answered.end b.answered.keeps))
           (λ events replies event cause b. record {
             turns = so_far.turns ++ map (λ event. None) b.later;
@@ -190,12 +198,12 @@ module _ {S L D P G C K : Type 0} (g : Ghosts S D P G C) (e : elector.Ghosts L S
                 (book_leaves k (IsReached g f s b.failed.runs.end event) f.artifact (kept_of s.voter.length b.failed.runs.end) (book_of b.failed.before) (book_of node) (b.failed.runs.keeps.core.ledger.journal keeps) (b.failed.any_moment keeps))
                 (subst (λ (on : Disks K). MayBeRead k on read) back may);
           })
-          {A = Stretch} (Err why) given text more ends
+          {A = Stretch} (Err why) given text more ends)
 
       -- one that came to the end of the input
       pub ended_among : (old node : Node S L D K P G C) (h : History S D P G C) (before : List (Event D)) (said : List (Reply S D P G C)) (ReadFailed : Type 0) (given text more : Option (List ℕ))
           → (so_far : RunsAmong g e k f s views old h before said)
-          → ((end : History S D P G C) → NodeKeeps g e k f s node end → NoneDue g f s end → k.keeps → (read : List (List ℕ)) → MayBeRead k left read → IsLeftBehind g f s {A = Stretch} (Ok Ended) (are_two left) end read)
+          → ((end : History S D P G C) → NodeKeeps g e k f s node end → NoneDue g f s end → k.keeps → (read : List (List ℕ)) → MayBeRead k left read → IsLeftBehind {A = Stretch} g f s (Ok Ended) (are_two left) end read)
           → EndsIn F p w q (Behind before said (RunsTo g e k f s so_far.end node)) (FailsBehind before said (RunFails g e k f s so_far.end node)) ReadFailed (Ok Ended) given text more
           → ServesAmong g k f s views left F p w q h ReadFailed (Ok Ended) given text more
       ended_among old node h before said ReadFailed given text more so_far whole ends =
@@ -213,7 +221,7 @@ module _ {S L D P G C K : Type 0} (g : Ghosts S D P G C) (e : elector.Ghosts L S
       -- one behind which the rewrite failed
       pub paused_among : (old node : Node S L D K P G C) (h : History S D P G C) (before : List (Event D)) (said : List (Reply S D P G C)) (given behind : Option (List ℕ)) (state : InputState) (text more : Option (List ℕ))
           → (so_far : RunsAmong g e k f s views old h before said)
-          → ((end : History S D P G C) → NodeKeeps g e k f s node end → NoneDue g f s end → k.keeps → (read : List (List ℕ)) → MayBeRead k left read → IsLeftBehind g f s {A = Stretch} (Ok Paused) (are_two left) end read)
+          → ((end : History S D P G C) → NodeKeeps g e k f s node end → NoneDue g f s end → k.keeps → (read : List (List ℕ)) → MayBeRead k left read → IsLeftBehind {A = Stretch} g f s (Ok Paused) (are_two left) end read)
           → StopsAmid F p w (Behind before said (RunsTo g e k f s so_far.end node)) given behind state text more → AnswersFront F p w (AnswersAmong g k f s views left (Ok Paused) h) given text more
       paused_among old node h before said given behind state text more so_far whole stops =
           let b = stops.answered in

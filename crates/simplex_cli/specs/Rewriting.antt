@@ -1,5 +1,5 @@
 -- What a program comes to that rewrites its record while it runs.
-use Rattle.std.specs.Prelude.{◌≡◌, ◌⊎◌, ◌++◌, ◌≤◌, ◌+◌, ◌-◌, ◌^◌, min, ℕ, Bool, List, [], ◌∷◌, Option, None, Some, Result, Ok, Err, ⊤}
+use Rattle.std.specs.Prelude.{◌≡◌, ◌⊎◌, ◌++◌, ◌≤◌, ◌+◌, ◌-◌, ◌^◌, min, ℕ, Bool, List, [], ◌∷◌, Option, None, Some, Result, Ok, Err, false, true, ⊤}
 use Rattle.std.specs.Io.KnownBytes.{Appends}
 use Rattle.types_codec.specs.declared.codec.CodecError.{CodecError}
 use Rattle.types_codec.specs.Front.{AppendsFront}
@@ -35,7 +35,8 @@ use Rattle.simplex_cli.specs.Serving.{EndsAs, IsLeftBehind}
 -- two, the rewrite of the record failed, behind all of the input or where the run paused
 abbrev pub EndsAmong : Result Stretch IoFault → Bool → Result ⊤ Ending → Type 0
 EndsAmong (Err why) two ended = ended ≡ Err (ending_of why)
-EndsAmong (Ok Paused) two ended = (why : NodeFault) × (ended ≡ Err (ending.Step why))
+EndsAmong (Ok Paused) false ended = ⊥
+EndsAmong (Ok Paused) true ended = (why : NodeFault) × (ended ≡ Err (ending.Step why))
 EndsAmong (Ok Ended) two ended = EndsAs (Ok tt) two ended
 
 module _ {S D P G C : Type 0} (g : Ghosts S D P G C) (f : Formats S D P G C) (s : Setup S D C) where

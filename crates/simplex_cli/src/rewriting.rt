@@ -1,6 +1,6 @@
 //! A node over a record and streams, whose record is rewritten while it runs.
 
-ghost use Rattle.std.specs.Prelude.{◌≡◌, ◌⊎◌, false, Err, Result, Some};
+ghost use Rattle.std.specs.Prelude.{◌≡◌, ◌⊎◌, ℕ, false, Err, Result, Some};
 ghost use Rattle.journal_single.specs.Disk.{counted};
 ghost use Rattle.journal_books.specs.Books.{are_two};
 ghost use Rattle.simplex_member.specs.declared.fault.IoFault.{IoFault};

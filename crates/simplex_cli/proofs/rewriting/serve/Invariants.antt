@@ -12,8 +12,8 @@ use Rattle.simplex_cli.specs.Rewriting.{RunsAmong}
 use Rattle.simplex_cli.proofs.rewriting.serve.Given as goal
 
 -- the events that were taken so far were answered, with rewrites between; as many disks are there; and no stream failed
-abbrev pub invariant-loop-view : goal.invariant-loop-view
-invariant-loop-view g l = record {
+abbrev pub invariant-loop-node : goal.invariant-loop-node
+invariant-loop-node g l = record {
   so_far : (s : Setup g.row.S.Denot g.row.D.Denot g.row.S-Certificate.Denot) (h : History g.row.S.Denot g.row.D.Denot g.row.S-PublicKey.Denot g.row.S-Signature.Denot g.row.S-Certificate.Denot)
       → NodeKeeps g.S.Scheme g.L.Elector g.K.Disk (formats {S = g.row.S.Denot} {P = g.row.S-PublicKey.Denot} g.D.PartialEq.eq g.D.Write.spelling g.S.Signature.Write.spelling g.S.Certificate.Write.spelling g.D.Read.reading g.S.Signature.Read.reading g.S.Certificate.Read.reading (g.S.Scheme.size s.voter.scheme)) s l.fn.node h → NoneDue g.S.Scheme (formats {S = g.row.S.Denot} {P = g.row.S-PublicKey.Denot} g.D.PartialEq.eq g.D.Write.spelling g.S.Signature.Write.spelling g.S.Certificate.Write.spelling g.D.Read.reading g.S.Signature.Read.reading g.S.Certificate.Read.reading (g.S.Scheme.size s.voter.scheme)) s h
       → StopsAmid g.D.Write.fits g.D.Write.spelling (spelled {S = g.row.S.Denot} g.S.PublicKey.Write.spelling g.D.Write.spelling g.S.Signature.Write.spelling g.S.Certificate.Write.spelling) (RunsAmong g.S.Scheme g.L.Elector g.K.Disk (formats {S = g.row.S.Denot} {P = g.row.S-PublicKey.Denot} g.D.PartialEq.eq g.D.Write.spelling g.S.Signature.Write.spelling g.S.Certificate.Write.spelling g.D.Read.reading g.S.Signature.Read.reading g.S.Certificate.Read.reading (g.S.Scheme.size s.voter.scheme)) s l.fn.views l.node h)
@@ -25,5 +25,5 @@ invariant-loop-view g l = record {
 }
 
 -- how many events may still be taken
-abbrev pub decreases-loop-view : goal.decreases-loop-view
-decreases-loop-view g l = 2 ^ 32 - l.events.taken
+abbrev pub decreases-loop-node : goal.decreases-loop-node
+decreases-loop-node g l = 2 ^ 32 - l.events.taken
