@@ -1,6 +1,7 @@
 //! What is to happen: the lines of a scenario.
 
-ghost use Rattle.std.specs.Prelude.{◌≡◌, ◌≤◌, ◌<◌, Err, IfOk, is_ok, true};
+ghost use Rattle.std.specs.Prelude.{◌≡◌, ◌≤◌, ◌<◌, ◌==◌, Err, IfOk, is_ok, true};
+ghost use Rattle.std.specs.List.{list_any};
 ghost use Rattle.world_network.specs.declared.refusal.Refusal.TheVariants.{NotLater, StillDown};
 
 use crate::refusal::Refusal;
@@ -244,7 +245,7 @@ impl Scenario {
 
     /// Whether this member joins late.
     pub fn joins_late(&self, member: u32) -> bool
-        ensures { IsTrue result ↔ Contains self.now.joins.items member }
+        ensures { result ≡ list_any (λ join. join == member) self.now.joins.items }
     {
         self.joins.contains(&member)
     }
