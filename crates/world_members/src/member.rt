@@ -1,6 +1,6 @@
 //! A member of a world.
 
-ghost use Rattle.std.specs.Prelude.{◌≡◌, None, Some};
+ghost use Rattle.std.specs.Prelude.{◌≡◌, ◌↔◌, None, Some, IsTrue};
 
 use crate::liar::Liar;
 use crate::patience::{Patience, earlier, has_come};
