@@ -18,7 +18,7 @@ use Rattle.simplex_member.specs.Setup.{Setup}
 use Rattle.node_steps.specs.declared.node.Node.{Node}
 use Rattle.node_steps.specs.Keeps.{NodeKeeps, book_of, disks_of, has_failed}
 use Rattle.node_wire.specs.declared.stretch.Stretch.{Stretch}
-use Rattle.node_wire.specs.Amid.{StandsBehind, StepsOver, StopsIn}
+use Rattle.node_wire.specs.Amid.{StepsOver, StopsIn}
 use Rattle.node_wire.specs.Over.{ends_as, ends_by, ends_over}
 use Rattle.node_wire.specs.OverAmid.{behind_as, fails_behind_as, steps_among, steps_by, stops_as}
 use Rattle.node_wire.specs.Stepper.{Answer, AnswerBefore, Behind, FailsBehind}
