@@ -1,5 +1,7 @@
-pub mod Places
-pub mod Values
+pub mod Begun
+pub mod Kept
 pub mod Looked
 pub mod LookedHalves
 pub mod Opens
+pub mod Places
+pub mod Values
