@@ -54,7 +54,8 @@ impl Requests {
 
     /// Puts all that was asked at the front of the room and forgets it, where it fits, and answers its size.
     pub fn take(&self, room: &mut [u8]) -> Result<usize, usize>
-        ensures { OnErr result (room.new ≡ room.old) }
+        ensures unwritten { OnErr result (room.new ≡ room.old) }
+        ensures fits { IfOk result (λ size. size ≤ length room.old) }
     {
         match self.list.try_borrow_mut() {
             Ok(mut list) => take_all(&mut list, room),

@@ -309,6 +309,7 @@ pub fn requests_taken(
     ensures dead { node.old.live ≢ 1 → (result ≡ Argument) × (node.new.live ≡ 0) }
     ensures live { node.old.live ≡ 1 → node.new.live ≡ 1 }
     ensures answers { (result ≡ Done) ⊎ ((result ≡ Argument) ⊎ (result ≡ Room)) }
+    ensures fits { result ≡ Done → found.new.length ≤ length room.old }
     ensures unwritten { result ≢ Done → room.new ≡ room.old }
     ensures unnamed { result ≢ Argument → found.new.named ≡ 0 }
 {

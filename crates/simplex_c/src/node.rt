@@ -158,6 +158,7 @@ pub extern "C" fn voumlis_proved_node_requests(
     ensures held { held_by node.new ≡ held_by node.old }
     ensures dead { node.old.live ≢ 1 → (result ≡ 2) × (node.new.live ≡ 0) }
     ensures live { node.old.live ≡ 1 → node.new.live ≡ 1 }
+    ensures fits { result ≡ 0 → found.new.length ≤ length room.old }
     ensures unwritten { result ≢ 0 → room.new ≡ room.old }
     ensures unnamed { result ≢ 2 → found.new.named ≡ 0 }
     ensures statuses { result ≤ 3 }
