@@ -1,4 +1,5 @@
 pub mod Begun
+pub mod Holding
 pub mod Kept
 pub mod Looked
 pub mod LookedHalves

@@ -380,6 +380,7 @@ pub fn closed(alloc: Global, node: &mut Handle) -> Status
 fn fitted(taken: Result<usize, usize>, found: &mut Found) -> Status
     ensures done { result ≡ Done → taken ≡ Ok found.new.length }
     ensures room { result ≢ Done → (result ≡ Room) × (taken ≡ Err found.new.length) }
+    ensures size { (taken ≡ Ok found.new.length) ⊎ (taken ≡ Err found.new.length) }
     ensures unnamed { found.new.named ≡ 0 }
 {
     match taken {
