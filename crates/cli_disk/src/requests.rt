@@ -1,16 +1,17 @@
 //! What a host is asked to do with the bytes that it keeps.
 
-ghost use Rattle.std.specs.Prelude.{◌≡◌, ◌++◌, ◌≤◌, ◌<◌, [], ◌⊎◌, length, take, Ok, Err, OnErr, OnOk};
-ghost use Rattle.cli_hosted.specs.Requests.{cutting, fixing, number, tag_of, writing};
+ghost use Rattle.std.specs.Prelude.{◌≡◌, ◌++◌, ◌≤◌, ◌<◌, [], ◌⊎◌, IfOk, length, take, Ok, Err, OnErr, OnOk};
+ghost use Rattle.cli_disk.specs.Requests.{EndsWith, cutting, fixing, number, tag_of, writing};
 
 use crate::room::put;
 use std::alloc::{AllocError, Global};
 use std::cell::RefCell;
 use std::rc::Rc;
+use std::snapshot::Snapshot;
 
 /// Which of a record's files a request speaks of.
 #[derive(Clone, Copy, Drop)]
-pub(crate) enum File {
+pub enum File {
     /// The one, or the first of two.
     First,
     /// The second of two.
@@ -32,28 +33,29 @@ impl File {
 
 /// What was asked and was not taken yet, the oldest first. It is shared by the disks, which add to it, and by whoever takes it.
 #[derive(Drop)]
-pub(crate) struct Requests {
+pub struct Requests {
     list: Rc<RefCell<Vec<u8>>>,
 }
 
 impl Requests {
     /// Nothing was asked.
-    pub(crate) fn new(alloc: Global) -> Result<Requests, AllocError> {
+    pub fn new(alloc: Global) -> Result<Requests, AllocError> {
         Ok(Requests {
             list: Rc::new(alloc, RefCell::new(Vec::new(alloc)))?,
         })
     }
 
     /// The same list once more.
-    pub(crate) fn shared(&self) -> Result<Requests, AllocError> {
+    pub fn shared(&self) -> Result<Requests, AllocError> {
         Ok(Requests {
             list: Rc::clone(&self.list)?,
         })
     }
 
     /// Puts all that was asked at the front of the room and forgets it, where it fits, and answers its size.
-    pub(crate) fn take(&self, room: &mut [u8]) -> Result<usize, usize>
-        ensures { OnErr result (room.new ≡ room.old) }
+    pub fn take(&self, room: &mut [u8]) -> Result<usize, usize>
+        ensures unwritten { OnErr result (room.new ≡ room.old) }
+        ensures fits { IfOk result (λ size. size ≤ length room.old) }
     {
         match self.list.try_borrow_mut() {
             Ok(mut list) => take_all(&mut list, room),
@@ -61,8 +63,16 @@ impl Requests {
         }
     }
 
-    /// Asks to write bytes into a file from a place on. Where there is no memory for that, nothing is asked.
-    pub(crate) fn write(&self, file: File, at: u64, bytes: &[u8]) -> Result<(), AllocError> {
+    /// Asks to write bytes into a file from a place on, and remembers what was asked then. Where there is no memory for that, nothing is
+    /// asked.
+    pub(crate) fn write(
+        &self,
+        file: File,
+        at: u64,
+        bytes: &[u8],
+    ) -> Result<Snapshot<Vec<u8>>, AllocError>
+        ensures { IfOk result (λ asked. EndsWith (writing file at bytes.now) asked.value.items) }
+    {
         match self.list.try_borrow_mut() {
             Ok(mut list) => push_writing(&mut list, file, at, bytes),
             Err(_) => Err(AllocError),
@@ -87,7 +97,7 @@ impl Requests {
 }
 
 /// Puts all at the front of the room and empties the list, where it fits, and answers its size.
-pub(crate) fn take_all(list: &mut Vec<u8>, room: &mut [u8]) -> Result<usize, usize>
+pub fn take_all(list: &mut Vec<u8>, room: &mut [u8]) -> Result<usize, usize>
     ensures taken { OnOk result (list.new.items ≡ []) }
     ensures done { OnOk result ((length list.old.items ≤ length room.old) × (take (length list.old.items) room.new ≡ list.old.items)) }
     ensures size { (size : _) → (result ≡ Ok size ⊎ result ≡ Err size) → size ≡ length list.old.items }
@@ -104,8 +114,14 @@ pub(crate) fn take_all(list: &mut Vec<u8>, room: &mut [u8]) -> Result<usize, usi
 }
 
 /// Ends the list with this request, or leaves it as it was.
-fn push_writing(list: &mut Vec<u8>, file: File, at: u64, bytes: &[u8]) -> Result<(), AllocError>
+fn push_writing(
+    list: &mut Vec<u8>,
+    file: File,
+    at: u64,
+    bytes: &[u8],
+) -> Result<Snapshot<Vec<u8>>, AllocError>
     ensures ok { OnOk result (list.new.items ≡ list.old.items ++ writing file at bytes.now) }
+    ensures asked { IfOk result (λ asked. asked.value.items ≡ list.new.items) }
     ensures same { OnErr result (list.new.items ≡ list.old.items) }
 {
     // Whatever memory may refuse comes before the first byte.
@@ -114,7 +130,7 @@ fn push_writing(list: &mut Vec<u8>, file: File, at: u64, bytes: &[u8]) -> Result
     list.extend_from_slice(&number(at)).unwrap();
     list.extend_from_slice(&number(bytes.len() as u64)).unwrap();
     list.extend_from_slice(bytes).unwrap();
-    Ok(())
+    Ok(Snapshot::of(list))
 }
 
 /// Ends the list with this request, or leaves it as it was.

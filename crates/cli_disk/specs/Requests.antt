@@ -1,8 +1,8 @@
 -- What a host is asked to do with the bytes that it keeps, as bytes.
-use Rattle.std.specs.Prelude.{ℕ, ◌+◌, List, [], ◌∷◌, ◌++◌, length}
+use Rattle.std.specs.Prelude.{◌≡◌, ℕ, ◌+◌, List, [], ◌∷◌, ◌++◌, length}
 use Rattle.std.specs.Int.{w64, to_be_bytes}
-use Rattle.cli_hosted.specs.declared.requests.File.{File}
-use Rattle.cli_hosted.specs.declared.requests.File.TheVariants as file
+use Rattle.cli_disk.specs.declared.requests.File.{File}
+use Rattle.cli_disk.specs.declared.requests.File.TheVariants as file
 
 -- a number as eight bytes, the highest first
 unfoldable pub number : ℕ → List ℕ
@@ -24,3 +24,8 @@ cutting on len = tag_of on 1 ∷ number len
 -- fix what stands there: tag 2
 abbrev pub fixing : File → List ℕ
 fixing on = tag_of on 2 ∷ []
+
+-- the last of all that is asked is this request
+pub record EndsWith (request all : List ℕ) : Type 0 where
+  pub before : List ℕ
+  pub is : all ≡ before ++ request
