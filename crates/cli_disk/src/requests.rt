@@ -101,6 +101,7 @@ pub fn take_all(list: &mut Vec<u8>, room: &mut [u8]) -> Result<usize, usize>
     ensures taken { OnOk result (list.new.items ≡ []) }
     ensures done { OnOk result ((length list.old.items ≤ length room.old) × (take (length list.old.items) room.new ≡ list.old.items)) }
     ensures size { (size : _) → (result ≡ Ok size ⊎ result ≡ Err size) → size ≡ length list.old.items }
+    ensures fits { IfOk result (λ size. size ≤ length room.old) }
     ensures no_room { OnErr result (length room.old < length list.old.items) }
     ensures unwritten { OnErr result (room.new ≡ room.old) }
     ensures kept { OnErr result (list.new.items ≡ list.old.items) }
