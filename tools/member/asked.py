@@ -1,8 +1,10 @@
 """What a node asked for since its opening, and what of it stands."""
-from .history import Asks, AsksBuild, AsksCertify, AsksVerify, Built, Checked, GivesBack, Heard, LeavesBehind, latest, opened_at, over
+from .history import (
+    Asks, AsksBuild, AsksCertify, AsksVerify, Built, Checked, GivesBack, Heard, LeavesBehind, Opened, Repeats, Told, latest, opened_at, over,
+)
 from .positions import MOST
 from .record import is_kept_judged
-from .repair import is_settled
+from .repair import ANCESTRY, is_settled
 from .voter import last_finalized
 
 
@@ -60,6 +62,36 @@ def sent(asked, here):
 def is_answered(h, view, kind, until, to):
     """This was asked for already, of the same member or of all; or nothing is left to be asked."""
     return is_settled(h, view, kind) or (view, kind, until, to) in sent(h)
+
+
+@over(frozenset())
+def sent_now(asked, here):
+    """The asks that were sent since the time was told last."""
+    point = here.point
+    if isinstance(point, (Opened, Told)):
+        return frozenset()
+    return asked | {(point.view, point.kind, point.until, point.to)} if isinstance(point, Asks) else asked
+
+
+@over(False)
+def was_repeated(repeated, here):
+    """A nullify was repeated since the time was told last."""
+    return not isinstance(here.point, (Opened, Told)) and (repeated or isinstance(here.point, Repeats))
+
+
+def goes_again(h):
+    """What was asked goes again: a nullify was repeated since the time was told last, and asks go with it."""
+    return h.setup.goes_again and was_repeated(h)
+
+
+def is_out(h, view, kind, until, to):
+    """This went out for now, to the same member or to all; or nothing is left to be asked."""
+    return is_settled(h, view, kind) or (view, kind, until, to) in (sent_now(h) if goes_again(h) else sent(h))
+
+
+def pending(h):
+    """What was asked until a finalization, where it goes again."""
+    return sorted((it for it in sent(h) if it[2] == ANCESTRY), key=lambda it: (it[0], it[1], it[3] is not None, it[3] or 0)) if goes_again(h) else []
 
 
 @over({})

@@ -11,6 +11,8 @@ use Rattle.voter_rules.specs.declared.config.SkipPolicy.TheVariants as skip
 use Rattle.voter_rules.specs.declared.floor.Floor.{Floor}
 use Rattle.voter_rules.specs.declared.floor.Floor.TheVariants as floor
 use Rattle.voter_history.specs.History as views
+use Rattle.simplex_member.specs.declared.policy.Again.TheVariants as again
+use Rattle.simplex_member.specs.declared.policy.RepairPolicy.{RepairPolicy}
 use Rattle.voter_views.specs.Views.{built}
 use Rattle.voter_rules.specs.Ancestry.{Member, member}
 
@@ -27,6 +29,8 @@ pub record Setup (S D C : Type 0) : Type 0 where
   pub forward : ForwardPolicy
   -- votes are kept in full for good
   pub tracks : Bool
+  -- how it asks for what it lacks
+  pub repair : RepairPolicy
 
 -- for how long a leader may be silent
 abbrev pub silence_of : SkipPolicy → Option ℕ
@@ -53,7 +57,8 @@ module _ {S D C : Type 0} where
   IsInTime s now = now + longest_timeout s < 2 ^ 64
 
 -- Two setups of one member: its scheme, by which the members are known, its index, its epoch, the length of terms, the payload at the start,
--- where both bring it, and whom the elector names are fixed for good. All else may differ from one of its nodes to the next
+-- where both bring it, and whom the elector names are fixed for good. All else, as how it repairs, may differ from one of its nodes to the
+-- next
 pub record IsOfOneMember {S D C : Type 0} (s other : Setup S D C) : Type 0 where
   pub scheme : other.voter.scheme ≡ s.voter.scheme
   pub me : other.me ≡ s.me
@@ -96,4 +101,5 @@ module _ {S L D P G C : Type 0} where
     silence = silence_of config.skip;
     forward = config.forward;
     tracks = config.track_historical_votes;
+    repair = record { again = again.Once; window = None };
   }
