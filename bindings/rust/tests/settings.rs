@@ -7,8 +7,8 @@ use std::fs;
 use std::io::ErrorKind;
 use voumlis::wire::{Action, Channel, Event, Plan};
 use voumlis::{
-    Ending, Forwarding, Node, Record, Settings, SettingsError, SettingsFault, Skips, Views,
-    first_refused,
+    Ending, Forwarding, Node, Record, Repair, Settings, SettingsError, SettingsFault, Skips,
+    Views, first_refused,
 };
 
 /// What the opening of a node with these settings has it do.
@@ -73,6 +73,8 @@ fn each_fault_is_told_by_its_name() {
         .shuffled([7; 255])
         .skips(Skips::Disabled)
         .forwarding(Forwarding::SilentLeader)
+        .repair(Repair::Once)
+        .repair_window(u64::MAX)
         .historical_votes(false);
     assert_eq!(edges.check(), Ok(()));
     assert_eq!(good().terms(4, 1, 1_000).check(), Ok(()));

@@ -43,6 +43,10 @@ pub enum Key {
     SkipBudget,
     /// To whom payloads are forwarded.
     Forwarding,
+    /// Whether an ask that nothing settled goes again.
+    Repair,
+    /// For how many views to leave behind others are asked at once.
+    RepairWindow,
     /// Whether each vote is kept until its view is dropped.
     HistoricalVotes,
 }
@@ -71,6 +75,8 @@ impl Key {
             Key::SkipTimeout => "skip-timeout",
             Key::SkipBudget => "skip-budget",
             Key::Forwarding => "forwarding",
+            Key::Repair => "repair",
+            Key::RepairWindow => "repair-window",
             Key::HistoricalVotes => "historical-votes",
         }
     }
@@ -99,6 +105,8 @@ impl Key {
             "skip-timeout" => Some(Key::SkipTimeout),
             "skip-budget" => Some(Key::SkipBudget),
             "forwarding" => Some(Key::Forwarding),
+            "repair" => Some(Key::Repair),
+            "repair-window" => Some(Key::RepairWindow),
             "historical-votes" => Some(Key::HistoricalVotes),
             _ => None,
         }

@@ -22,8 +22,8 @@ use Rattle.simplex_resolver.specs.declared.ask.Kind as repair
 use Rattle.simplex_resolver.specs.declared.ask.Kind.TheVariants as repair_kind
 use Rattle.simplex_resolver.specs.Outstanding.{IsOutstanding}
 use Rattle.simplex_member.specs.Allowed.{HasReason, RetryIsKnown}
-use Rattle.simplex_member.specs.declared.policy.Again.{Again}
-use Rattle.simplex_member.specs.declared.policy.Again.TheVariants as again
+use Rattle.voter_rules.specs.declared.config.Again.{Again}
+use Rattle.voter_rules.specs.declared.config.Again.TheVariants as again
 use Rattle.simplex_member.specs.Asked.{IsPending, IsSent, asks_now, asks_of, build_at, goes_again, was_repeated}
 use Rattle.simplex_member.specs.Layers.{current_of, known_of, latest, repair_of, voter_of, votes_of, votes_setup}
 use Rattle.simplex_member.specs.Member.{NoneDue}

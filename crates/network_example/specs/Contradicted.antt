@@ -20,7 +20,7 @@ use Rattle.voter_rules.specs.declared.config.ForwardPolicy.TheVariants as policy
 use Rattle.simplex_rules.specs.Accountability.{IsContradicted, NamesAtLeast}
 use Rattle.simplex_rules.specs.Audit.{IsVerdict}
 use Rattle.simplex_record.specs.World.{World, IsAlike, IsCorrect}
-use Rattle.simplex_member.specs.declared.policy.Again.TheVariants as again
+use Rattle.voter_rules.specs.declared.config.Again.TheVariants as again
 use Rattle.simplex_member.specs.declared.event.Channel.TheVariants as channel
 use Rattle.simplex_member.specs.declared.event.Event.{Event}
 use Rattle.simplex_member.specs.declared.event.Event.TheVariants as event

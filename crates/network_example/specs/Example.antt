@@ -13,7 +13,7 @@ use Rattle.simplex_messages.specs.declared.vote.Vote.TheVariants as vote
 use Rattle.types_terms.specs.declared.elector.Mode.TheVariants.{Scheduled}
 use Rattle.voter_rules.specs.declared.config.ForwardPolicy.TheVariants as policy
 use Rattle.simplex_record.specs.World.{World, IsAlike, IsCorrect}
-use Rattle.simplex_member.specs.declared.policy.Again.TheVariants as again
+use Rattle.voter_rules.specs.declared.config.Again.TheVariants as again
 use Rattle.simplex_member.specs.declared.event.Channel.{Channel}
 use Rattle.simplex_member.specs.declared.event.Channel.TheVariants as channel
 use Rattle.simplex_member.specs.declared.event.Event.{Event}

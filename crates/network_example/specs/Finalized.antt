@@ -21,7 +21,7 @@ use Rattle.types_terms.specs.declared.kind.Kind.TheVariants as kind
 use Rattle.voter_rules.specs.declared.config.ForwardPolicy.TheVariants as policy
 use Rattle.batcher_verifier.specs.declared.batch.Batch.{Batch}
 use Rattle.simplex_record.specs.World.{World, IsAlike}
-use Rattle.simplex_member.specs.declared.policy.Again.TheVariants as again
+use Rattle.voter_rules.specs.declared.config.Again.TheVariants as again
 use Rattle.simplex_member.specs.declared.event.Event.TheVariants as event
 use Rattle.simplex_member.specs.Deeds.{Finalizes}
 use Rattle.simplex_member.specs.Laws.{DoAttestAlike}

@@ -1,10 +1,9 @@
 //! What stays the same through an opening of a node.
 
-use simplex_member::RepairPolicy;
 use simplex_record::Owner;
 use std::alloc::Global;
 use std::rc::Rc;
-use voter_rules::config::ForwardPolicy;
+use voter_rules::config::{ForwardPolicy, RepairPolicy};
 
 /// What stays the same through an opening of a node.
 #[derive(Drop)]

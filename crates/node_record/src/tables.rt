@@ -17,12 +17,13 @@ ghost use Rattle.simplex_member.specs.Point.{History, Outcome, Opened, Told, Hea
 ghost use Rattle.simplex_member.specs.Setup.{Setup};
 ghost use Rattle.node_record.specs.Tables.{AtEach, IsFirstBuild, KeepsTables, asked_cmp, build_parts, verdicts_of};
 
-use simplex_member::{Again, Asked};
+use simplex_member::Asked;
 use simplex_resolver::{Ask, Until};
 use std::alloc::{AllocError, Global};
 use std::collections::{BTreeMap, BTreeSet};
 use std::ops::Bound;
 use types_core::{Context, Digest, Participant, PublicKey, Scheme, View};
+use voter_rules::config::Again;
 
 /// A build that was asked for.
 #[derive(Clone, Copy)]

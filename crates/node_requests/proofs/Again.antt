@@ -13,7 +13,7 @@ use Rattle.node_record.specs.declared.tables.Tables.{Tables}
 use Rattle.node_record.specs.Tables.{KeepsTables}
 use Rattle.simplex_member.specs.declared.action.Action.{Action}
 use Rattle.simplex_member.specs.declared.asked.Asked.{Asked}
-use Rattle.simplex_member.specs.declared.policy.Again.{Again}
+use Rattle.voter_rules.specs.declared.config.Again.{Again}
 use Rattle.simplex_member.specs.Asked.{IsPending, IsSent, asks_now, asks_of, goes_again, was_repeated}
 use Rattle.simplex_member.specs.Laws.{FinalizeAlike}
 use Rattle.simplex_member.specs.Layers.{finalized_of, repair_of}

@@ -21,7 +21,7 @@ use Rattle.simplex_resolver.specs.declared.state.State.{State as Repair}
 use Rattle.node_record.specs.declared.tables.Tables.{Tables}
 use Rattle.node_record.specs.Tables.{KeepsTables}
 use Rattle.simplex_member.specs.declared.action.Action.{Action}
-use Rattle.simplex_member.specs.declared.policy.RepairPolicy.{RepairPolicy}
+use Rattle.voter_rules.specs.declared.config.RepairPolicy.{RepairPolicy}
 use Rattle.simplex_member.specs.Asked.{AreLower, IsInWindow, IsSent, backfill}
 use Rattle.simplex_member.specs.Layers.{finalized_of, repair_of}
 use Rattle.simplex_member.specs.Packet.{Formats}

@@ -20,7 +20,7 @@ use crate::acted::Acted;
 use crate::fetching::fetch;
 use node_outbox::hand_out;
 use node_record::Tables;
-use simplex_member::{Action, Again, Asked, NodeFault, Speaks};
+use simplex_member::{Action, Asked, NodeFault, Speaks};
 use simplex_resolver::{Ask, Kind, State as Repair};
 use simplex_state::State as Voter;
 use std::alloc::Global;
@@ -28,6 +28,7 @@ use types_core::{Digest, Proposal, Scheme, Viewable};
 use types_terms::Elector;
 use voter_history::Token;
 use voter_rules::CertificateFetch;
+use voter_rules::config::Again;
 
 /// Asks for all verdicts that are due; and all for the notarizations that verdicts wait for, which are put off until then.
 ///

@@ -14,12 +14,11 @@ ghost use Rattle.node_requests.specs.Fetching.{Fetches};
 
 use node_outbox::hand_out;
 use node_record::Tables;
-use simplex_member::{
-    Action, Again, Asked, Channel, NodeFault, Speaks, repair_and_voter_finalize_alike,
-};
+use simplex_member::{Action, Asked, Channel, NodeFault, Speaks, repair_and_voter_finalize_alike};
 use simplex_resolver::State as Repair;
 use std::alloc::Global;
 use types_core::{Digest, Participant, Scheme, View, Write};
+use voter_rules::config::Again;
 
 /// Asks for this, where it isn't settled and the same was not asked before, or goes again: whether it was asked now.
 ///

@@ -8,12 +8,11 @@ ghost use Rattle.node_requests.specs.NoneDue.{NoneToAskAgain, NoViewToAsk};
 use crate::acted::Acted;
 use crate::fetching::fetch;
 use node_record::Tables;
-use simplex_member::{
-    Action, Again, Asked, NodeFault, RepairPolicy, Speaks, repair_and_voter_finalize_alike,
-};
+use simplex_member::{Action, Asked, NodeFault, Speaks, repair_and_voter_finalize_alike};
 use simplex_resolver::{Ask, State as Repair};
 use std::alloc::Global;
 use types_core::{Digest, Scheme};
+use voter_rules::config::{Again, RepairPolicy};
 
 /// Asks all for the views that the member has to repair, each that wasn't asked for before, or is asked for again: for as many
 /// as its window has, the lowest first. It goes over no more of them.

@@ -26,7 +26,7 @@ use crate::acted::Acted;
 use crate::fetching::fetch;
 use node_outbox::hand_out;
 use node_record::Tables;
-use simplex_member::{Action, Again, Asked, NodeFault, Speaks};
+use simplex_member::{Action, Asked, NodeFault, Speaks};
 use simplex_resolver::{Ask, Kind, State as Repair};
 use simplex_state::{State as Voter, Verify};
 use std::alloc::Global;
@@ -34,6 +34,7 @@ use types_core::{Context, Digest, Proposal, Scheme, View};
 use types_terms::Elector;
 use voter_history::TimeoutReason;
 use voter_laws::{a_look_leaves_nothing_to_ask, what_is_known_stays};
+use voter_rules::config::Again;
 use voter_rules::one_request_is_due;
 use voter_rules::requests::{VerifyRequest, request_for};
 

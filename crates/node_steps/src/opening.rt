@@ -28,8 +28,8 @@ use node_core::{Core, Layers, Settings};
 use node_due::settle;
 use node_record::Ledger;
 use simplex_member::{
-    Action, Again, NodeFault, OpenFault, RepairPolicy, SetupFault, Speaks,
-    lawful_records_are_opened, packets_are_read_back,
+    Action, NodeFault, OpenFault, SetupFault, Speaks, lawful_records_are_opened,
+    packets_are_read_back,
 };
 use simplex_record::Owner;
 use std::alloc::Global;
@@ -405,10 +405,7 @@ fn settings_of<S: Scheme<D>, L: Elector<S, D>, D: Digest>(
         owner,
         forward: config.forward,
         silence: silence_of(config.skip),
-        repair: RepairPolicy {
-            again: Again::Once,
-            window: None,
-        },
+        repair: config.repair,
         longest: longest_timeout(config, &terms),
     }
 }

@@ -26,9 +26,9 @@ use Rattle.voter_rules.specs.Answers.{best_certificate}
 use Rattle.voter_rules.specs.GivingUp.{MayLatch, NullifyIsDue}
 use Rattle.voter_rules.specs.VotesDue.{FinalizeIsDue, NotarizeIsDue}
 use Rattle.simplex_member.specs.declared.asked.Asked.{Asked}
-use Rattle.simplex_member.specs.declared.policy.Again.{Again}
-use Rattle.simplex_member.specs.declared.policy.Again.TheVariants as again
-use Rattle.simplex_member.specs.declared.policy.RepairPolicy.{RepairPolicy}
+use Rattle.voter_rules.specs.declared.config.Again.{Again}
+use Rattle.voter_rules.specs.declared.config.Again.TheVariants as again
+use Rattle.voter_rules.specs.declared.config.RepairPolicy.{RepairPolicy}
 use Rattle.simplex_member.specs.Allowed.{Allowed, IsSilent, IsSought, RepeatIsDue, RetryIsKnown, VoteIsDue}
 use Rattle.simplex_member.specs.Asked.{AreLower, IsInWindow, IsPending, asks_now, asks_of, backfill, goes_again, sent_of, was_repeated}
 use Rattle.simplex_member.specs.Layers.{latest, repair_of, voter_of, voter_points}

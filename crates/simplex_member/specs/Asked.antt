@@ -13,8 +13,8 @@ use Rattle.simplex_resolver.specs.Outstanding.{IsOutstanding}
 use Rattle.simplex_resolver.specs.RepairHistory.{Item}
 use Rattle.simplex_record.specs.Record.{entries, HasJudged}
 use Rattle.simplex_member.specs.declared.asked.Asked.{Asked}
-use Rattle.simplex_member.specs.declared.policy.Again.{Again}
-use Rattle.simplex_member.specs.declared.policy.Again.TheVariants as again
+use Rattle.voter_rules.specs.declared.config.Again.{Again}
+use Rattle.voter_rules.specs.declared.config.Again.TheVariants as again
 use Rattle.simplex_member.specs.Layers.{finalized_of, latest, repair_of}
 use Rattle.simplex_member.specs.Packet.{Formats}
 use Rattle.simplex_member.specs.Point.{Opened, Told, Heard, Built, Checked, AsksBuild, AsksVerify, AsksCertify, GivesBack, LeavesBehind, Asks, Repeats, History}

@@ -16,8 +16,8 @@ use Rattle.voter_rules.specs.Ancestry.{held_at}
 use Rattle.voter_rules.specs.GivingUp.{NullifyIsDue}
 use Rattle.voter_rules.specs.VotesDue.{NotarizeIsDue, FinalizeIsDue}
 use Rattle.simplex_member.specs.declared.asked.Asked.{Asked}
-use Rattle.simplex_member.specs.declared.policy.Again.TheVariants as again
-use Rattle.simplex_member.specs.declared.policy.RepairPolicy.{RepairPolicy}
+use Rattle.voter_rules.specs.declared.config.Again.TheVariants as again
+use Rattle.voter_rules.specs.declared.config.RepairPolicy.{RepairPolicy}
 use Rattle.simplex_member.specs.Allowed.{Allowed, RepeatIsDue, RetryIsKnown, VoteIsDue}
 use Rattle.simplex_member.specs.Asked.{asks_of}
 use Rattle.simplex_member.specs.Layers.{current_of, known_of, latest, repair_of, voter_of}

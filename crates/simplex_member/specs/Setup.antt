@@ -6,13 +6,12 @@ use Rattle.messages_certificates.specs.ProposalCertificate.{Finalization}
 use Rattle.simplex_record.specs.declared.owner.Owner.{Owner}
 use Rattle.voter_rules.specs.declared.config.Config.{Config}
 use Rattle.voter_rules.specs.declared.config.ForwardPolicy.{ForwardPolicy}
+use Rattle.voter_rules.specs.declared.config.RepairPolicy.{RepairPolicy}
 use Rattle.voter_rules.specs.declared.config.SkipPolicy.{SkipPolicy}
 use Rattle.voter_rules.specs.declared.config.SkipPolicy.TheVariants as skip
 use Rattle.voter_rules.specs.declared.floor.Floor.{Floor}
 use Rattle.voter_rules.specs.declared.floor.Floor.TheVariants as floor
 use Rattle.voter_history.specs.History as views
-use Rattle.simplex_member.specs.declared.policy.Again.TheVariants as again
-use Rattle.simplex_member.specs.declared.policy.RepairPolicy.{RepairPolicy}
 use Rattle.voter_views.specs.Views.{built}
 use Rattle.voter_rules.specs.Ancestry.{Member, member}
 
@@ -101,5 +100,5 @@ module _ {S L D P G C : Type 0} where
     silence = silence_of config.skip;
     forward = config.forward;
     tracks = config.track_historical_votes;
-    repair = record { again = again.Once; window = None };
+    repair = config.repair;
   }

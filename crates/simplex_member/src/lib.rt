@@ -6,7 +6,6 @@ mod asked;
 mod event;
 mod fault;
 mod laws;
-mod policy;
 mod refusal;
 mod repairing;
 mod sent;
@@ -32,7 +31,6 @@ pub use laws::{
     votes_are_lawful, votes_are_recorded, what_is_kept_stands_for_all, what_is_kept_tells_all,
     what_is_made_may_be_recorded,
 };
-pub use policy::{Again, RepairPolicy};
 pub use refusal::Refusal;
 pub use repairing::{
     asks_are_in_their_window, asks_go_again_with_nullifies, nothing_else_waits_for_asks,

@@ -1,5 +1,5 @@
 use Rattle.std.proofs.Common.{◌&&◌, ◌∙◌, ap, sym}
-use Rattle.simplex_member.specs.declared.policy.Again.{Again}
+use Rattle.voter_rules.specs.declared.config.Again.{Again}
 use Rattle.simplex_member.specs.Asked.{goes_again, was_repeated}
 use Rattle.node_record.proofs.Pending.{sent_all, sent_now}
 use Rattle.node_record.proofs.tables.Tables.was_sent.Goals as goal
