@@ -206,6 +206,13 @@ pub struct Settings {
 impl Settings {
     /// Those of `member` of `members` by the program `simplex node`, but that asks go again.
     pub fn new(member: u32, members: u32) -> Settings {
+        Settings::of_program(member, members)
+            .repair(Repair::WithNullify)
+            .repair_window(1_024)
+    }
+
+    /// Those of `member` of `members` by the program `simplex node`: each ask goes once, and all at once.
+    pub fn of_program(member: u32, members: u32) -> Settings {
         Settings {
             members,
             member,
@@ -225,8 +232,8 @@ impl Settings {
                 budget: None,
             },
             forwarding: Forwarding::Disabled,
-            repair: Repair::WithNullify,
-            repair_window: 1_024,
+            repair: Repair::Once,
+            repair_window: 0,
             historical_votes: true,
         }
     }

@@ -7,8 +7,8 @@ use std::fs;
 use std::io::ErrorKind;
 use voumlis::wire::{Action, Channel, Event, Plan};
 use voumlis::{
-    Ending, Forwarding, Node, Record, Repair, Settings, SettingsError, SettingsFault, Skips,
-    Views, first_refused,
+    Ending, Forwarding, Node, Record, Repair, Settings, SettingsError, SettingsFault, Skips, Views,
+    first_refused,
 };
 
 /// What the opening of a node with these settings has it do.
