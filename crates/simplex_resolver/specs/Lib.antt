@@ -1,5 +1,6 @@
 pub mod Answers
 pub mod Asking
 pub mod RepairHistory
+pub mod Gaps
 pub mod Keeps
 pub mod Outstanding

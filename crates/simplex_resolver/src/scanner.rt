@@ -5,7 +5,7 @@ ghost use Rattle.types_core.specs.Positions.{HasRoom};
 
 use crate::effect::{Effect, push_if};
 use crate::held::Held;
-use crate::terms::{scan_start, terms_between};
+use crate::terms::scan_start;
 use messages_certificates::{Certificate, Notarization};
 use std::alloc::{AllocError, Global};
 use types_core::{Digest, Scheme, TermLength, View, Viewable, Write};
@@ -33,6 +33,7 @@ impl Scanner {
     ghost use Rattle.simplex_resolver.specs.RepairHistory.{Item, Nullified, Notarized, Finalized, Judged, Replayed, item_of, covered, floor, live};
     ghost use Rattle.simplex_resolver.specs.Outstanding.{Gives, Scans, ScansBehind, AreMissing, fetch_failed, scanned};
     ghost use Rattle.simplex_resolver.specs.Keeps.{Stands, AtEachScan, scan_length};
+    ghost use Rattle.simplex_resolver.specs.Gaps.{IsAnchorGap, IsFailedGap, IsFirstAbove, IsGap};
 
     /// Nothing has come, and the replay has not ended.
     pub(crate) fn new(alloc: Global, term_length: TermLength) -> Self
@@ -271,8 +272,7 @@ impl Scanner {
         Ok(())
     }
 
-    /// Asks for what is missing from the view on, below the highest certificate's view: gap by gap, and term by term in
-    /// each, which has room at once.
+    /// Asks for what is missing from the view on, below the highest certificate's view: gap by gap.
     fn ask_from(
         &self,
         effects: &mut Vec<Effect>,
@@ -283,16 +283,11 @@ impl Scanner {
         ensures { OnOk result (AtEachScan self.now
             (λ views h. (asked : List Effect) × Scans views h cause start asked × (effects.new.items ≡ effects.old.items ++ asked))) }
     {
-        let mut anchor = start;
-        'gaps: while let Some(first) = self.held.first_missing(anchor, self.current) {
+        let mut from = start;
+        'gaps: while let Some(first) = self.held.first_missing(from, self.current) {
             let last = self.held.last_missing(first, self.current);
-            // So much may be missing that only a refusal ends this: it is to come before the work.
-            effects.reserve(terms_between(first, last, self.held.length))?;
-            anchor = first;
-            'terms: while anchor <= last {
-                effects.push(Effect::fetch(anchor, cause))?;
-                anchor = anchor.next_term_start(self.held.length);
-            }
+            effects.push(Effect::fetch(first, last, cause))?;
+            from = last.next();
         }
         Ok(())
     }
@@ -309,5 +304,69 @@ impl Scanner {
             last = view;
         }
         Ok(())
+    }
+
+    /// The first view above this one that is to be repaired, by what is held.
+    pub(crate) fn first_gap(&self, last: View) -> Option<View>
+        ensures { IsFirstAbove (IsGap self.now) last result }
+    {
+        if !self.live {
+            return None;
+        }
+        let Some(anchor) = self.first_anchor(last) else {
+            return self.first_failed(last);
+        };
+        match self.first_failed(last) {
+            Some(failed) if failed < anchor => Some(failed),
+            _ => Some(anchor),
+        }
+    }
+
+    /// The first view above this one that no nullification covers, of those that are due since a later one has a certificate.
+    fn first_anchor(&self, last: View) -> Option<View>
+        ensures { IsFirstAbove (IsAnchorGap self.now) last result }
+    {
+        if last >= self.current {
+            return None;
+        }
+        let mut before = self.before_anchors(last);
+        while let Some(first) = self.held.first_uncovered(before, self.current) {
+            if first == self.floor.next() || first.is_term_start(self.held.length) {
+                return Some(first);
+            }
+            // What a nullification covers reaches to a term's end. So this isn't come to; but no type says so.
+            before = first.term_end(self.held.length);
+        }
+        None
+    }
+
+    /// Up to where behind this view none is due since a later one has a certificate.
+    fn before_anchors(&self, last: View) -> View
+        requires { last < self.now.current }
+        ensures behind { last ≤ result }
+        ensures above { self.now.floor ≤ result }
+        ensures none { (v : ℕ) → last < v → v ≤ result → ¬ IsAnchorGap self.now v }
+    {
+        if last <= self.floor {
+            return self.floor;
+        }
+        last.term_end(self.held.length)
+    }
+
+    /// The first view above this one with a false verdict that no nullification covers.
+    fn first_failed(&self, last: View) -> Option<View>
+        ensures { IsFirstAbove (IsFailedGap self.now) last result }
+    {
+        let mut above = if last < self.floor { self.floor } else { last };
+        while let Some(view) = self.held.next_failed(above) {
+            if view.get() == u64::MAX {
+                return None;
+            }
+            if self.held.is_bare(view) {
+                return Some(view);
+            }
+            above = view;
+        }
+        None
     }
 }
