@@ -190,7 +190,7 @@ impl Held {
             (AtEachHeld self.now (λ views h. (v : ℕ) → finalized h < first → first ≤ v → v < end → covered views h v ≡ true)) }
     {
         let before = View::new(first.get() - 1);
-        self.covered.first_uncovered(before, end)
+        self.first_uncovered(before, end)
     }
 
     /// The last view below `end` up to which, from `first` on, no nullification covers any, where none covers `first`.
