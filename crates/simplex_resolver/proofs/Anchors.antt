@@ -13,7 +13,7 @@ pub record Asked (views : ℕ) (h : List Item) (cause start : ℕ) (old now : Li
   pub on : (more : List (ℕ × ℕ)) → AreBare views h from (current h) more → AreBare views h start (current h) (spans ++ more)
 
 map_append : {A B : Type 0} (f : A → B) (xs ys : List A) → map f (xs ++ ys) ≡ map f xs ++ map f ys
-map_append f [] ys = refl
+map_append {A} {B} f [] ys = refl
 map_append {A} {B} f (x ∷ xs) ys = ap (λ (es : List B). f x ∷ es) (map_append f xs ys)
 
 module _ (views : ℕ) (h : List Item) (cause start : ℕ) (old : List Effect) where

@@ -381,6 +381,12 @@ module _ (s : Scanner) (last : ℕ) where
         absurd (let is = f.failed in let never = least v from (omega (arith, fits, end)) in grind (arith, is, never))
   ]
 
+  pub no_failed_to_floor : (v : ℕ) → last < v → v ≤ s.floor → ¬ IsFailedGap s v
+  no_failed_to_floor v past le f = let above = f.above in absurd (omega (arith, above, le))
+
+  pub no_failed_to_itself : (v : ℕ) → last < v → v ≤ last → ¬ IsFailedGap s v
+  no_failed_to_itself v past le f = absurd (omega (arith, past, le))
+
   -- of both kinds the first
   pub none_of_both : IsFirstAbove (IsAnchorGap s) last None → (found : Option ℕ) → IsFirstAbove (IsFailedGap s) last found → s.live ≡ true → IsFirstAbove (IsGap s) last found
   none_of_both no_anchor None no_failed on v past (live_is, inl a) = no_anchor v past a

@@ -1,6 +1,6 @@
 //! What came to a member, and what a scan over it asks for.
 
-ghost use Rattle.std.specs.Prelude.{◌<◌};
+ghost use Rattle.std.specs.Prelude.{◌≡◌, ◌<◌, ◌+◌, ◌^◌, IsTrue, false};
 ghost use Rattle.types_core.specs.Positions.{HasRoom};
 
 use crate::effect::{Effect, push_if};
@@ -27,7 +27,8 @@ pub(crate) struct Scanner {
 }
 
 impl Scanner {
-    ghost use Rattle.std.specs.Prelude.{◌≡◌, ◌+◌, ◌++◌, ◌∷◌, [], ℕ, List, not, nat_lt, ◌&&◌, OnOk, IfOk, true, false, map};
+    ghost use Rattle.std.specs.Prelude.{◌≡◌, ◌↔◌, ◌⊎◌, ◌≤◌, ◌+◌, ◌++◌, ◌∷◌, [], ℕ, List, not, nat_lt, ◌&&◌, OnOk, IfOk, IsTrue, true, false, map};
+    ghost use Rattle.types_core.specs.Positions.{IsTermStart};
     ghost use Rattle.messages_certificates.specs.Certificate.{any_certificate_spelling, certificate_round, as_notarization};
     ghost use Rattle.simplex_resolver.specs.declared.effect.Effect.{Effect};
     ghost use Rattle.simplex_resolver.specs.RepairHistory.{Item, Nullified, Notarized, Finalized, Judged, Replayed, item_of, covered, floor, live};
@@ -331,7 +332,7 @@ impl Scanner {
         }
         let mut before = self.before_anchors(last);
         while let Some(first) = self.held.first_uncovered(before, self.current) {
-            if first == self.floor.next() || first.is_term_start(self.held.length) {
+            if self.is_anchor(first) {
                 return Some(first);
             }
             // What a nullification covers reaches to a term's end. So this isn't come to; but no type says so.
@@ -353,13 +354,20 @@ impl Scanner {
         last.term_end(self.held.length)
     }
 
+    /// Whether the view is the first above the floor, or starts a term.
+    fn is_anchor(&self, view: View) -> bool
+        ensures { IsTrue result ↔ ((view ≡ self.now.floor + 1) ⊎ IsTermStart self.now.held.length view) }
+    {
+        view == self.floor.next() || view.is_term_start(self.held.length)
+    }
+
     /// The first view above this one with a false verdict that no nullification covers.
     fn first_failed(&self, last: View) -> Option<View>
         ensures { IsFirstAbove (IsFailedGap self.now) last result }
     {
-        let mut above = if last < self.floor { self.floor } else { last };
+        let mut above = self.before_failed(last);
         while let Some(view) = self.held.next_failed(above) {
-            if view.get() == u64::MAX {
+            if is_last(view) {
                 return None;
             }
             if self.held.is_bare(view) {
@@ -369,4 +377,24 @@ impl Scanner {
         }
         None
     }
+
+    /// Up to where behind this view none is due for a false verdict.
+    fn before_failed(&self, last: View) -> View
+        ensures behind { last ≤ result }
+        ensures above { self.now.floor ≤ result }
+        ensures none { (v : ℕ) → last < v → v ≤ result → ¬ IsFailedGap self.now v }
+    {
+        if last < self.floor {
+            return self.floor;
+        }
+        last
+    }
+}
+
+/// Whether no view comes behind this one.
+fn is_last(view: View) -> bool
+    ensures last { IsTrue result → view + 1 ≡ 2 ^ 64 }
+    ensures fits { result ≡ false → view + 1 < 2 ^ 64 }
+{
+    view.get() == u64::MAX
 }

@@ -1,11 +1,17 @@
 use Rattle.std.proofs.Common.{◌≡◌, ◌<◌, ◌≤◌, arith}
 use Rattle.std.proofs.lemmas.Bool.Decides.{nat_tests}
 use Rattle.simplex_resolver.proofs.Gaps.{none_in_term, none_to_floor}
-use Rattle.simplex_resolver.proofs.TermStarts.{room_before, term_end-ge}
+use Rattle.simplex_resolver.proofs.TermStarts.{room-term, term_end-ge}
 use Rattle.simplex_resolver.proofs.scanner.Scanner.before_anchors.Goals as goal
 
 pub returns-then-le-clause-none : goal.returns-then-le-clause-none
 returns-then-le-clause-none c = none_to_floor c.args.self.now c.args.last (grind (arith, nat_tests))
+
+pub term_end-requires : goal.term_end-requires
+term_end-requires c =
+    let low = c.requires in
+    let room = room-term c.args.self.now.held.length c.args.self.now.some c.args.last c.args.self.now.current c.args.self.now.current_room (omega (arith, low)) in
+    omega (arith, room)
 
 pub returns-clause-behind : goal.returns-clause-behind
 returns-clause-behind c = rw c.term_end.ensures (term_end-ge c.args.self.now.held.length c.args.self.now.some c.args.last)
