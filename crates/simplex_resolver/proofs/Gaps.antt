@@ -35,11 +35,11 @@ in_cases y xs x (zero, below, is) = inl is
 in_cases y xs x (suc k, below, is) = inr (k, omega (arith, below), is)
 
 module _ (test : ℕ → Bool) where
-  step_yes : (more last : ℕ) → test (last + 1) ≡ true → those_behind test (suc more) last ≡ last + 1 ∷ those_behind test more (last + 1)
-  step_yes more last yes = ap (λ (b : Bool). if b then last + 1 ∷ those_behind test more (last + 1) else those_behind test more (last + 1)) yes
+  step_yes : (more last : ℕ) → test (last + 1) ≡ true → those_behind test (suc more) last ≡ (last + 1) ∷ those_behind test more (last + 1)
+  step_yes more last yes = ap (λ (b : Bool). if b then (last + 1) ∷ those_behind test more (last + 1) else those_behind test more (last + 1)) yes
 
   step_no : (more last : ℕ) → test (last + 1) ≡ false → those_behind test (suc more) last ≡ those_behind test more (last + 1)
-  step_no more last no = ap (λ (b : Bool). if b then last + 1 ∷ those_behind test more (last + 1) else those_behind test more (last + 1)) no
+  step_no more last no = ap (λ (b : Bool). if b then (last + 1) ∷ those_behind test more (last + 1) else those_behind test more (last + 1)) no
 
   -- the first of them, and those behind it
   those_first : (count last v : ℕ) → last < v → v ≤ last + count → test v ≡ true → ((u : ℕ) → last < u → u < v → test u ≡ false) → those_behind test count last ≡ v ∷ those_behind test (last + count - v) v
@@ -86,7 +86,7 @@ module _ (test : ℕ → Bool) where
         let e : last + 1 ≡ v = omega (arith, past, here) in
         let yes : test (last + 1) ≡ true = subst (λ (u : ℕ). test u ≡ true) (sym e) is in
         subst (λ (xs : List ℕ). Contains xs v) (sym (step_yes n last yes))
-        (subst (λ (u : ℕ). Contains (last + 1 ∷ those_behind test n (last + 1)) u) e (first_in (last + 1) (those_behind test n (last + 1))))
+        (subst (λ (u : ℕ). Contains ((last + 1) ∷ those_behind test n (last + 1)) u) e (first_in (last + 1) (those_behind test n (last + 1))))
   ]
 
   -- all lie above what isn't above the view, and they ascend

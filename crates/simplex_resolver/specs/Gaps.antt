@@ -1,5 +1,5 @@
 -- Which views a member has to repair, by what is held.
-use Rattle.std.specs.Prelude.{◌≡◌, ◌⊎◌, ◌==◌, ◌&&◌, ◌||◌, ◌+◌, ◌-◌, ◌^◌, ◌<◌, ℕ, zero, suc, Bool, true, not, nat_lt, nat_le, max, List, [], ◌∷◌, Option, None, Some, if◌then◌else◌}
+use Rattle.std.specs.Prelude.{◌≡◌, ◌⊎◌, ◌==◌, ◌&&◌, ◌||◌, ◌+◌, ◌-◌, ◌^◌, ◌<◌, ℕ, zero, suc, Bool, true, false, not, nat_lt, nat_le, max, List, [], ◌∷◌, Option, None, Some, if◌then◌else◌}
 use Rattle.std.specs.Ordering.{nat_cmp}
 use Rattle.std.specs.BTreeSet.{contains}
 use Rattle.types_core.specs.Positions.{term_start, IsTermStart}
@@ -51,7 +51,7 @@ module _ (s : Scanner) where
 abbrev pub those_behind : (ℕ → Bool) → ℕ → ℕ → List ℕ
 those_behind test zero last = []
 those_behind test (suc more) last =
-    if test (last + 1) then last + 1 ∷ those_behind test more (last + 1) else those_behind test more (last + 1)
+    if test (last + 1) then (last + 1) ∷ those_behind test more (last + 1) else those_behind test more (last + 1)
 
 -- the greatest of some numbers, or 0
 abbrev pub greatest : List ℕ → ℕ
