@@ -14,8 +14,9 @@ use Rattle.simplex_resolver.specs.declared.scanner.Scanner.{Scanner}
 use Rattle.simplex_resolver.specs.RepairHistory.{Item, Judged, covered, current, finalized, floor, has_failed, live}
 use Rattle.simplex_resolver.specs.Outstanding.{IsOutstanding}
 use Rattle.simplex_resolver.specs.Keeps.{Stands}
+use Rattle.simplex_resolver.specs.Earlier.{earlier}
 use Rattle.simplex_resolver.specs.Gaps.{IsAnchorGap, IsFailedGap, IsFirstAbove, IsGap, gaps_behind, greatest, is_anchor, is_failed, is_gap, is_in, last_gap, those_behind}
-use Rattle.simplex_resolver.proofs.Choices.{bool_cases, or_cases, or_right, key_found, less_from_lt, nat_lt-yes, nat_le-yes}
+use Rattle.simplex_resolver.proofs.Choices.{bool_cases, or_cases, or_right, key_found, less_from_lt, nat_lt-yes, nat_lt-no, nat_le-yes}
 use Rattle.simplex_resolver.proofs.Covers.{finalized-floor}
 use Rattle.simplex_resolver.proofs.TermStarts.{next_term_start-gt, start_behind-ge, term_end-ge}
 
@@ -388,19 +389,27 @@ module _ (s : Scanner) (last : ℕ) where
   no_failed_to_itself v past le f = absurd (omega (arith, past, le))
 
   -- of both kinds the first
-  pub none_of_both : IsFirstAbove (IsAnchorGap s) last None → (found : Option ℕ) → IsFirstAbove (IsFailedGap s) last found → s.live ≡ true → IsFirstAbove (IsGap s) last found
+  none_of_both : IsFirstAbove (IsAnchorGap s) last None → (found : Option ℕ) → IsFirstAbove (IsFailedGap s) last found → s.live ≡ true → IsFirstAbove (IsGap s) last found
   none_of_both no_anchor None no_failed on v past (live_is, inl a) = no_anchor v past a
   none_of_both no_anchor None no_failed on v past (live_is, inr f) = no_failed v past f
   none_of_both no_anchor (Some first) is on = (is.0, (on, inr is.1), λ v past short gap. ⊎_elim (λ a. no_anchor v past a) (λ f. is.2 v past short f) gap.1)
 
-  pub failed_before : (anchor failed : ℕ) → failed < anchor → IsFirstAbove (IsAnchorGap s) last (Some anchor) → IsFirstAbove (IsFailedGap s) last (Some failed) → s.live ≡ true → IsFirstAbove (IsGap s) last (Some failed)
+  failed_before : (anchor failed : ℕ) → failed < anchor → IsFirstAbove (IsAnchorGap s) last (Some anchor) → IsFirstAbove (IsFailedGap s) last (Some failed) → s.live ≡ true → IsFirstAbove (IsGap s) last (Some failed)
   failed_before anchor failed before a f on = (f.0, (on, inr f.1), λ v past short gap. ⊎_elim (λ x. a.2 v past (omega (arith, short, before)) x) (λ x. f.2 v past short x) gap.1)
 
-  pub anchor_before : (anchor failed : ℕ) → anchor ≤ failed → IsFirstAbove (IsAnchorGap s) last (Some anchor) → IsFirstAbove (IsFailedGap s) last (Some failed) → s.live ≡ true → IsFirstAbove (IsGap s) last (Some anchor)
+  anchor_before : (anchor failed : ℕ) → anchor ≤ failed → IsFirstAbove (IsAnchorGap s) last (Some anchor) → IsFirstAbove (IsFailedGap s) last (Some failed) → s.live ≡ true → IsFirstAbove (IsGap s) last (Some anchor)
   anchor_before anchor failed before a f on = (a.0, (on, inl a.1), λ v past short gap. ⊎_elim (λ x. a.2 v past short x) (λ x. f.2 v past (omega (arith, short, before)) x) gap.1)
 
-  pub anchor_alone : (anchor : ℕ) → IsFirstAbove (IsAnchorGap s) last (Some anchor) → IsFirstAbove (IsFailedGap s) last None → s.live ≡ true → IsFirstAbove (IsGap s) last (Some anchor)
+  anchor_alone : (anchor : ℕ) → IsFirstAbove (IsAnchorGap s) last (Some anchor) → IsFirstAbove (IsFailedGap s) last None → s.live ≡ true → IsFirstAbove (IsGap s) last (Some anchor)
   anchor_alone anchor a none on = (a.0, (on, inl a.1), λ v past short gap. ⊎_elim (λ x. a.2 v past short x) (λ x. none v past x) gap.1)
+
+  pub both_first : (one other : Option ℕ) → IsFirstAbove (IsAnchorGap s) last one → IsFirstAbove (IsFailedGap s) last other → s.live ≡ true → IsFirstAbove (IsGap s) last (earlier one other)
+  both_first None other a f on = none_of_both a other f on
+  both_first (Some x) None a f on = anchor_alone x a f on
+  both_first (Some x) (Some y) a f on = elim (cases_lt y x) [
+    | inl before ↦ subst (λ (o : Option ℕ). IsFirstAbove (IsGap s) last o) (sym (ap (λ (b : Bool). if b then Some y else Some x) (nat_lt-yes y x before))) (failed_before x y before a f on)
+    | inr le ↦ subst (λ (o : Option ℕ). IsFirstAbove (IsGap s) last o) (sym (ap (λ (b : Bool). if b then Some y else Some x) (nat_lt-no y x le))) (anchor_before x y le a f on)
+  ]
 
 -- a view is in no span where none between its neighbours is
 pub bare_by : (spans : List (ℕ × ℕ)) (v before behind : ℕ) (b : Bool) → before + 1 ≡ v → behind ≡ v + 1 → (IsTrue b ↔ AreCoveredBetween spans before behind) → IsTrue (not b) ↔ (IsCovered spans v → ⊥)

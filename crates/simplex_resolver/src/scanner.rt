@@ -2,6 +2,7 @@
 
 ghost use Rattle.std.specs.Prelude.{◌≡◌, ◌<◌, ◌+◌, ◌^◌, IsTrue, false};
 ghost use Rattle.types_core.specs.Positions.{HasRoom};
+ghost use Rattle.simplex_resolver.specs.Earlier.{earlier};
 
 use crate::effect::{Effect, push_if};
 use crate::held::Held;
@@ -314,13 +315,7 @@ impl Scanner {
         if !self.live {
             return None;
         }
-        let Some(anchor) = self.first_anchor(last) else {
-            return self.first_failed(last);
-        };
-        match self.first_failed(last) {
-            Some(failed) if failed < anchor => Some(failed),
-            _ => Some(anchor),
-        }
+        earlier(self.first_anchor(last), self.first_failed(last))
     }
 
     /// The first view above this one that no nullification covers, of those that are due since a later one has a certificate.
@@ -388,6 +383,19 @@ impl Scanner {
             return self.floor;
         }
         last
+    }
+}
+
+/// The earlier of two views, where one is there.
+fn earlier(one: Option<View>, other: Option<View>) -> Option<View>
+    ensures { result ≡ earlier one other }
+{
+    let Some(view) = one else {
+        return other;
+    };
+    match other {
+        Some(second) if second < view => other,
+        _ => one,
     }
 }
 
