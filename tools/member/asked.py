@@ -1,10 +1,11 @@
 """What a node asked for since its opening, and what of it stands."""
 from .history import (
-    Asks, AsksBuild, AsksCertify, AsksVerify, Built, Checked, GivesBack, Heard, LeavesBehind, Opened, Repeats, Told, latest, opened_at, over,
+    Asks, AsksBuild, AsksCertify, AsksVerify, Built, Checked, GivesBack, Heard, LeavesBehind, Opened, Repeats, Told, Wanted, latest, opened_at,
+    over,
 )
 from .positions import MOST
 from .record import is_kept_judged
-from .repair import ANCESTRY, is_settled
+from .repair import ANCESTRY, is_settled, served
 from .voter import last_finalized
 
 
@@ -104,3 +105,22 @@ def heard(moments, here):
 def last_heard(h, member):
     """When a member was heard last: at its last accepted vote, or at the opening."""
     return heard(h).get(member, opened_at(h))
+
+
+# ---- what others asked
+
+
+@over({})
+def served_at(moments, here):
+    """When which member was served which certificate last."""
+    if not isinstance(here.point, Wanted):
+        return moments
+    certificate = answer_to(here.before, here.point.member, here.point.view)
+    return moments if certificate is None else {**moments, (here.point.member, certificate): latest(here.before)}
+
+
+def answer_to(h, member, view):
+    """What a member is served that asks for a view, or None: the same certificate not again before the stated time has passed."""
+    certificate, answers = served(h, view), h.setup.answers
+    last = None if certificate is None or answers is None else served_at(h).get((member, certificate))
+    return None if last is not None and latest(h) < last + answers else certificate

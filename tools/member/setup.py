@@ -35,6 +35,8 @@ class Setup:
     # whether an ask that nothing settled goes again with a repeated nullify, and how many views to leave behind are asked for at once
     goes_again: bool = False
     window: int | None = None
+    # how long one and the same certificate isn't served to the same member again; without it no time
+    answers: int | None = None
     # the payload of view 0; or the finalization that an opening brings in its place, and then view 0 has none
     genesis: bytes | None = bytes(32)
     floor: object = None
