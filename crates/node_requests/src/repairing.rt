@@ -15,12 +15,53 @@ use types_core::{Digest, Scheme};
 use voter_rules::config::{Again, RepairPolicy};
 
 /// Asks all for the views that the member has to repair, each that wasn't asked for before, or is asked for again: for as many
-/// as its window has, the lowest first. It goes over no more of them.
+/// as its window has, the lowest first. It goes over no more of them, and makes room for their asks before the first.
 ///
 /// # Errors
 ///
 /// [`NodeFault::Memory`].
 pub fn ask_for_views<S: Scheme<D>, D: Digest>(
+    alloc: Global,
+    policy: RepairPolicy,
+    repair: &Repair,
+    tables: &mut Tables<S, D>,
+    out: &mut Vec<Action<S, D>>,
+) -> Result<Acted, NodeFault>
+    ensures acts { IfOk result (λ acted.
+        AtRepairer S.Scheme ⟦<S as Speaks<D>>⟧.formats repair.now tables.old (λ f s h.
+        s.repair ≡ policy → ComesToFetch S.Scheme f s (NoViewToAsk S.Scheme f s) tables.new h out.old.items out.new.items acted)) }
+    ensures fault { IfErr result (λ why. why ≡ step_fault.Memory) }
+{
+    make_room(policy, repair, out)?;
+    ask_for_each_view(alloc, policy, repair, tables, out)
+}
+
+/// Makes room for as many asks as may come: so much may be missing that only a refusal ends that, and it is to come before the work.
+///
+/// # Errors
+///
+/// [`NodeFault::Memory`].
+fn make_room<S: Scheme<D>, D: Digest>(
+    policy: RepairPolicy,
+    repair: &Repair,
+    out: &mut Vec<Action<S, D>>,
+) -> Result<(), NodeFault>
+    ensures same { out.new.items ≡ out.old.items }
+    ensures fault { IfErr result (λ why. why ≡ step_fault.Memory) }
+{
+    let most = repair.most_outstanding();
+    let room = match policy.window {
+        Some(views) => most.min(views),
+        None => most,
+    };
+    match out.reserve(room as usize) {
+        Ok(()) => Ok(()),
+        Err(_) => Err(NodeFault::Memory),
+    }
+}
+
+/// Asks all for these views, where there is room.
+fn ask_for_each_view<S: Scheme<D>, D: Digest>(
     alloc: Global,
     policy: RepairPolicy,
     repair: &Repair,

@@ -28,8 +28,8 @@ pub(crate) struct Scanner {
 }
 
 impl Scanner {
-    ghost use Rattle.std.specs.Prelude.{◌≡◌, ◌↔◌, ◌⊎◌, ◌≤◌, ◌+◌, ◌++◌, ◌∷◌, [], ℕ, List, not, nat_lt, ◌&&◌, OnOk, IfOk, IsTrue, true, false, map};
-    ghost use Rattle.types_core.specs.Positions.{IsTermStart};
+    ghost use Rattle.std.specs.Prelude.{◌≡◌, ◌↔◌, ◌⊎◌, ◌≤◌, ◌+◌, ◌-◌, ◌++◌, ◌∷◌, [], ℕ, List, not, nat_lt, ◌&&◌, OnOk, IfOk, IsTrue, true, false, map};
+    ghost use Rattle.types_core.specs.Positions.{IsTermStart, term_index};
     ghost use Rattle.messages_certificates.specs.Certificate.{any_certificate_spelling, certificate_round, as_notarization};
     ghost use Rattle.simplex_resolver.specs.declared.effect.Effect.{Effect};
     ghost use Rattle.simplex_resolver.specs.RepairHistory.{Item, Nullified, Notarized, Finalized, Judged, Replayed, item_of, covered, floor, live};
@@ -306,6 +306,14 @@ impl Scanner {
             last = view;
         }
         Ok(())
+    }
+
+    /// How many terms begin behind that of the floor, up to the highest certificate's view.
+    pub(crate) fn terms_behind_floor(&self) -> u64
+        ensures { result ≡ term_index self.now.held.length self.now.current - term_index self.now.held.length self.now.floor }
+    {
+        let last = self.current.term_index(self.held.length);
+        last.saturating_sub(self.floor.term_index(self.held.length))
     }
 
     /// The first view above this one that is to be repaired, by what is held.

@@ -21,12 +21,13 @@ pub struct State {
 }
 
 impl State {
-    ghost use Rattle.std.specs.Prelude.{◌≡◌, ◌↔◌, ◌∷◌, [], ℕ, Contains, OnOk, OnErr, IfOk};
+    ghost use Rattle.std.specs.Prelude.{◌≡◌, ◌↔◌, ◌-◌, ◌∷◌, [], ℕ, Contains, OnOk, OnErr, IfOk};
     ghost use Rattle.std.specs.Ordering.{nat_cmp};
     ghost use Rattle.std.specs.List.Sorted.{IsStrictlySortedBy};
     ghost use Rattle.std.specs.Option.{option_map};
     ghost use Rattle.messages_certificates.specs.Certificate.{any_certificate_spelling, certificate_round, as_notarization};
-    ghost use Rattle.simplex_resolver.specs.RepairHistory.{Judged, Replayed, item_of};
+    ghost use Rattle.types_core.specs.Positions.{term_index};
+    ghost use Rattle.simplex_resolver.specs.RepairHistory.{Judged, Replayed, current, floor, item_of};
     ghost use Rattle.simplex_resolver.specs.Outstanding.{Gives, IsOutstanding};
     ghost use Rattle.simplex_resolver.specs.Answers.{is_settled, is_key_settled, is_uncertifiable, produced};
     ghost use Rattle.simplex_resolver.specs.Keeps.{Keeps, AtEach, length_of};
@@ -132,6 +133,14 @@ impl State {
         ensures ascending { IsStrictlySortedBy nat_cmp result }
     {
         Outstanding::above(&self.scanner, self.scanner.floor)
+    }
+
+    /// How many terms begin behind that of the floor, up to the highest certificate's view: one view more than that at most is
+    /// outstanding since a later one has a certificate.
+    pub fn most_outstanding(&self) -> u64
+        ensures { AtEach self.now (λ views h. result ≡ term_index views (current h) - term_index views (floor h)) }
+    {
+        self.scanner.terms_behind_floor()
     }
 
     /// Whether nothing is left to be asked of this kind at the view: it is there, or never will be.

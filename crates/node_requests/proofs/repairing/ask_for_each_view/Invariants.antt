@@ -3,7 +3,7 @@ use Rattle.simplex_member.specs.Point.{History}
 use Rattle.simplex_member.specs.Setup.{Setup}
 use Rattle.node_requests.specs.Fetching.{RepairerKeeps}
 use Rattle.node_requests.proofs.Gaps.{RepairsBut}
-use Rattle.node_requests.proofs.repairing.ask_for_views.Given as goal
+use Rattle.node_requests.proofs.repairing.ask_for_each_view.Given as goal
 
 -- all views were asked for but those that are left
 abbrev pub invariant-views : goal.invariant-views
