@@ -18,6 +18,7 @@ const MARKS = {
   "finalized": { colour: "#0d6b36", row: 3, shape: "diamond", name: "final" },
   "crashed": { colour: "#d0342c", row: 3, shape: "cross", name: "crash" },
   "down": { colour: "#d0342c", row: 3, shape: "triangle", name: "kill" },
+  "joined": { colour: "#2f6fde", row: 3, shape: "triangle", name: "joins late" },
   "closed": { colour: "#e08a00", row: 3, shape: "cross", name: "closed by its host" },
   "rewrote": { colour: "#59b6a5", row: 3, shape: "square", name: "record rewritten" },
   "opened": { event: "opened", colour: "#1d232b", row: 3, shape: "circle", name: "opening" },
@@ -105,7 +106,7 @@ function extend(run, event) {
     case "built": run.builds.set(event.payload, event); run.laid = null; break;
     case "finalized": run.finals.push(event); run.laid = null; break;
     case "closed": closeSpan(run.open, member, at); break;
-    case "crashed": case "down":
+    case "crashed": case "down": case "away":
       closeSpan(run.open, member, at);
       if (!run.down[member]) run.downs.push(run.down[member] = { member, at, until: null });
       break;

@@ -275,6 +275,7 @@ function fillForm() {
   at("fields").replaceChildren(...groups.values());
   rows("liars", values.liars, liarRow);
   rows("crashes", values.crashes, crashRow);
+  rows("joins", values.joins, joinRow);
   rows("downs", values.downs, downRow);
   rows("cuts", values.cuts, cutRow);
 }
@@ -307,6 +308,11 @@ function liarRow(liar) {
 function crashRow(crash) {
   const of = (place, name, least, most) => number(crash[place], least, most, name, (given) => { crash[place] = given; });
   return ["member", of(0, "who crashes", 0, last()), "in view", of(1, "in which view", 1, 10000), "after calls", of(2, "after so many calls of its disk", 0, 10000), "down, ms", of(3, "for so long", 0, 1e6)];
+}
+
+function joinRow(join) {
+  const of = (place, name, least, most) => number(join[place], least, most, name, (given) => { join[place] = given; });
+  return ["member", of(0, "who joins late", 0, last()), "at, ms", of(1, "joins at", 1, 1e9)];
 }
 
 function downRow(down) {
@@ -406,6 +412,7 @@ function wire() {
   at("text").onchange = () => fromText(at("text").value);
   at("add-liar").onclick = () => { values.liars.push({ member: last(), ways: ["two-votes"] }); fromForm(); fillForm(); };
   at("add-crash").onclick = () => { values.crashes.push([0, 3, 5, 500]); fromForm(); fillForm(); };
+  at("add-join").onclick = () => { values.joins.push([last(), 5000]); fromForm(); fillForm(); };
   at("add-down").onclick = () => { values.downs.push([0, 1000 + 10000 * values.downs.length, 6000 + 10000 * values.downs.length]); fromForm(); fillForm(); };
   at("add-cut").onclick = () => { values.cuts.push([0, 2000, "0"]); fromForm(); fillForm(); };
   at("link").onclick = link;

@@ -361,4 +361,25 @@ const PRESETS =
   "crash 2 2 57 300\n" +
   "rewrite 3\n" +
   "lines some\n" +
+  "run\n" +
+  "# Four members, one of whom joins late, from what is final by then, and is killed later; the network loses.\n" +
+  "members 4\n" +
+  "seed 31\n" +
+  "views 24\n" +
+  "lose 50\n" +
+  "join 3 1500\n" +
+  "down 3 1800 2600\n" +
+  "lines some\n" +
+  "run\n" +
+  "# Seven members, one of whom lies, and records are rewritten. One joins before anything is final, and starts from genesis; another crashes\n" +
+  "# inside its first opening, and starts from the same finalization again.\n" +
+  "members 7\n" +
+  "seed 32\n" +
+  "views 16\n" +
+  "lie 6 withheld\n" +
+  "join 2 1\n" +
+  "join 5 600\n" +
+  "crash 5 0 10 300\n" +
+  "rewrite 2\n" +
+  "lines some\n" +
   "run\n";

@@ -29,7 +29,7 @@ const WAYS = {
 /** The values of a scenario without a line. */
 function plainScenario() {
   const numbers = Object.fromEntries(LINES.map(([word, , fields]) => [word, fields.map(([, without]) => without)]));
-  return { seed: 1, numbers, liars: [], crashes: [], downs: [], cuts: [] };
+  return { seed: 1, numbers, liars: [], crashes: [], joins: [], downs: [], cuts: [] };
 }
 
 /** The values of the first scenario of a text, or nothing where a line has a form that no control has: the module says what is wrong with it. */
@@ -44,6 +44,7 @@ function scenarioOf(text) {
     else if (fields && are(fields.length)) found.numbers[word] = numbers;
     else if (word === "lie" && Number.isInteger(numbers[0]) && rest.slice(1).every((way) => Object.hasOwn(WAYS, way))) found.liars.push({ member: numbers[0], ways: rest.slice(1) });
     else if (word === "crash" && are(4)) found.crashes.push(numbers);
+    else if (word === "join" && are(2)) found.joins.push(numbers);
     else if (word === "down" && are(3)) found.downs.push(numbers);
     else if (word === "cut" && rest.length === 3 && numbers.slice(0, 2).every(Number.isInteger) && /^\d+(,\d+)*$/.test(rest[2])) found.cuts.push([...numbers.slice(0, 2), rest[2]]);
     else return null;
@@ -52,7 +53,7 @@ function scenarioOf(text) {
 }
 
 /** The lines of these values: those alone that say something else than no line. */
-function textOf({ seed, numbers, liars, crashes, downs, cuts }) {
+function textOf({ seed, numbers, liars, crashes, joins, downs, cuts }) {
   const lines = [`seed ${seed}`];
   for (const [word, , fields] of LINES) {
     const values = numbers[word];
@@ -62,17 +63,19 @@ function textOf({ seed, numbers, liars, crashes, downs, cuts }) {
   }
   for (const { member, ways } of liars) if (ways.length) lines.push(`lie ${member} ${ways.join(" ")}`);
   for (const crash of crashes) lines.push(`crash ${crash.join(" ")}`);
+  for (const join of joins) lines.push(`join ${join.join(" ")}`);
   for (const down of downs) lines.push(`down ${down.join(" ")}`);
   for (const cut of cuts) lines.push(`cut ${cut.join(" ")}`);
   return lines.join("\n");
 }
 
 /** What a scenario is about, in a sentence. */
-function sentenceOf({ numbers, liars, crashes, downs, cuts }) {
+function sentenceOf({ numbers, liars, crashes, joins, downs, cuts }) {
   const [members] = numbers.members, faults = Math.floor((members - 1) / 3), said = [];
   const count = (number, one, many) => `${number} ${number === 1 ? one : many}`;
   if (liars.length) said.push(`${liars.map(({ member, ways }) => `${member} (${ways.join(", ")})`).join(", ")} ${liars.length === 1 ? "lies" : "lie"}, ${liars.length > faults ? `and only ${faults} may` : `as ${faults} may`}`);
   if (crashes.length) said.push(count(crashes.length, "crash inside a write", "crashes inside a write"));
+  if (joins.length) said.push(count(joins.length, "member joins late", "members join late"));
   if (downs.length) said.push(count(downs.length, "member is killed and opened again", "times a member is killed and opened again"));
   if (cuts.length) said.push(count(cuts.length, "cut of the network", "cuts of the network"));
   if (numbers.lose[0] || numbers.repeat[0]) said.push(`of a thousand packets ${numbers.lose[0]} are lost and ${numbers.repeat[0]} come twice`);

@@ -38,6 +38,10 @@ function told(event, { world, ways }, led) {
     case "crashed": if (event.in) return [`${who} crashes while its record is rewritten; ${event.bytes} bytes are left on its two disks.`, "The record from before stays whole on the one, until the new one is whole on the other. The next opening finds this one or that."];
       return [`${who} crashes inside a call of its disk; ${event.bytes} bytes are left there.`, "Of the write some bytes stand, of what wasn't synced a part. Nothing that rests on the lost part was handed out."];
     case "down": return [`${who} is killed, and will be opened again at ${(event.until / 1000).toFixed(2)} s.`, "What it wrote stays on its disk. Packets that come to it by then are lost, and nobody sends them again."];
+    case "away": return [`${who} isn't there yet, and joins at ${(event.until / 1000).toFixed(2)} s.`, "What is sent to it by then is lost, and nobody sends it again."];
+    case "joined": return view > 0
+      ? [`${who} joins, and starts from payload ${payload ?? "?"} of view ${view}, which is final.`, "Its host was given that finalization by a member that runs, and needn't believe it: a finalization proves itself. Of what lies below the member knows nothing."]
+      : [`${who} joins, and starts from genesis.`, "Nothing is final yet."];
     case "closed": return [`${who}'s host closes its node, which stands in view ${view}, and opens the record again.`, `It entered no view for ${event.waited / 1000} s. What a node lacks it asks for once in a life, so where that ask or each answer was lost, a new life asks again.`];
     case "lost": return [`${who}'s record isn't opened again.`, "This never comes where the disk kept what disks keep: it would be a broken promise."];
     case "lied": return [`${who} lies: it ${LIES[kind] ?? kind}${view === undefined ? "" : `, in view ${view}`}.`, `Up to ${world.faults} of ${world.members} may. What it signs twice is evidence, wherever the two votes meet.`];

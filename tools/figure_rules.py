@@ -280,7 +280,7 @@ RULES = [
     Rule("docs/EMBEDDING.md", r"by (\w+) functions over one heap", lambda _: functions_of_the_heap()),
     Rule("docs/DECISIONS.md", r"are public beside the (\w+); what a caller of the (\w+) needs", lambda _: (public_crates(), public_crates())),
     # proved
-    Rule("docs/PROVED.md", r"`take_all` and the (\w+) `push_` calls", lambda _: len(re.findall(r"(?m)^fn push_", read("crates/cli_hosted/src/requests.rt")))),
+    Rule("docs/PROVED.md", r"`take_all` and the (\w+) `push_` calls", lambda _: len(re.findall(r"(?m)^fn push_", read("crates/cli_disk/src/requests.rt")))),
     Rule("docs/PROVED.md", r"The heap's (\w+) functions", lambda _: functions_of_the_heap()),
     # formats
     *exact("docs/FORMATS.md", [*examples_of_formats(), *faults_of_settings()]),
@@ -321,7 +321,6 @@ RULES = [
     *exact("docs/TESTING.md", rows_of_testing()),
     Rule("docs/TESTING.md", r"each of (\d+) calls of a lone member", lambda _: int(found("crates/run_node/stdin", r"(?m)^# of (\d+) calls none fails$"))),
     Rule("docs/TESTING.md", r"plays (\w+) scenarios .*? and (\w+) that `tools/run-worlds` made", lambda _: (scenarios(), scenarios("lines none"))),
-    Rule("docs/WORLD.md", r"the gate's (\w+) scenarios", lambda _: scenarios()),
     # trials, by their log
     Rule(TRIALS, r"\| In (\d+) seeds \|", lambda _: len(trials())),
     Rule(TRIALS, r"\*\*(\w+) seeds of ten minutes", lambda _: len(trials())),

@@ -12,7 +12,7 @@ COLUMNS = 3
 SUMS = {
     "Drivers of tests": (r"run_|test_", 45),
     "Worlds": (r"world_|simplex_world", None),
-    "For C, and `simplex_tool`": (r"simplex_c$|cli_hosted|cli_calls|cli_tool|simplex_tool", 6),
+    "For C, and `simplex_tool`": (r"simplex_c$|cli_disk|cli_hosted|cli_calls|cli_tool|simplex_tool", 6),
 }
 ALL, LONGEST_WAY = 230, 75
 

@@ -9,6 +9,7 @@ from dataclasses import dataclass
 
 from member import judging, words
 from member.codec import artifact_bytes, event_bytes, reply_bytes
+from member.disks import bytes_of_word
 from member.record import record
 from member.scheme import PlainScheme
 from member.setup import Setup
@@ -19,6 +20,7 @@ PROGRAM = {
     "epoch": "0", "genesis": f'"{"00" * 32}"', "base": '"simplex"', "term-length": "4", "stall-timeout": "10000", "optimistic-views": "2",
     "leader-timeout": "1000", "certification-timeout": "2000", "retry-timeout": "5000", "retention": "10", "skips": "true",
     "skip-timeout": "8000", "forwarding": '"disabled"', "repair": '"with-nullify"', "repair-window": "1024", "historical-votes": "true",
+    "rewrite-views": "0",
 }
 LEFT = "left as it is, "
 CUTS = "; --cut cuts there, and may take votes that were sent"
@@ -53,7 +55,7 @@ def setup_of(given):
         number["optimistic-views"], number["stall-timeout"] or None, number["retention"], number["leader-timeout"],
         number["certification-timeout"], number["retry-timeout"], number["skip-timeout"] if of["skips"] == "true" else None,
         number.get("skip-budget"), text["forwarding"], of["historical-votes"] == "true", True, text["repair"] == "with-nullify",
-        number["repair-window"] or None, bytes.fromhex(text["genesis"]), order=order_of(number["members"], seed),
+        number["repair-window"] or None, genesis=bytes.fromhex(text["genesis"]), order=order_of(number["members"], seed),
     )
 
 
@@ -234,9 +236,20 @@ def pairs(script):
     rows = (TOP / "tools/cli-floors.script").read_text().splitlines()
     place = next(it for it, row in enumerate(rows) if row.startswith("serve 0 1"))
     asked, served, held = (row.split() for row in rows[place - 1:place + 2])
-    told = empty + found_line((), 0, "m.2")
-    paired(script, "at the end of the input the record is rewritten", ("members=1", "member=0"), (b"", b""), f"0 {served[6]}", told,
-           map(bytes.fromhex, held[2:]), asked[2])
+    behind = next(row.split() for row in rows[place + 2:] if row.startswith("bytes") and row.endswith(" -"))
+    told, none = empty + found_line((), 0, "m.2"), f"fault at byte {len(asked[2]) // 2}\n"
+    rewritten, as_it_was = (tuple(map(bytes_of_word, it[2:])) for it in (held, behind))
+    for title, views, events, status, last, disks in (
+        ("at the end of the input the record is rewritten", (), "", 0, "", rewritten),
+        ("it isn't behind a place where no event stands", (), "09", 3, none, as_it_was),
+        ("nor where fewer views are final than `rewrite-views` says", (2,), "09", 3, none, as_it_was),
+        ("where as many are it is, before that place", (1,), "09", 3, none, rewritten),
+        ("and not once more at the end of the input", (1,), "", 0, "", rewritten),
+    ):
+        lines = ("members=1", "member=0", *(f"rewrite-views={it}" for it in views))
+        paired(script, title, lines, (b"", b""), f"{status} {served[6]}", told + last, disks, asked[2] + events)
+    looked(script, "a record of one disk is never rewritten", ("members=1", "member=0", "rewrite-views=1"), 0, b"", 0, empty, as_it_was[0],
+           served[6], asked[2])
 
 
 def member_rows():

@@ -73,7 +73,7 @@ def runs_of(lines: Iterable[str]) -> list[dict]:
     for line in lines:
         event = json.loads(line)
         if event["event"] == "world":
-            runs.append({"world": event, "ways": {}, "crashes": 0, "kills": 0, "closings": 0, "rewrites": 0, "named": set(), "ended": None})
+            runs.append({"world": event, "ways": {}, "crashes": 0, "kills": 0, "closings": 0, "rewrites": 0, "late members": 0, "named": set(), "ended": None})
         take(runs[-1], event)
     return runs
 
@@ -90,6 +90,8 @@ def take(run: dict, event: dict) -> None:
             run["closings"] += 1
         case "rewrote":
             run["rewrites"] += 1
+        case "joined":
+            run["late members"] += 1
         case "evidence":
             run["named"].add(int(event["line"].split(" signer ")[1].split()[0]))
         case "ended":
@@ -104,7 +106,7 @@ def words_of(run: dict) -> list[str]:
         return [*found, "it did not end"]
     split = f"{ended['contradictions']} contradictions: THE CHAIN PARTS" if ended["contradictions"] else "one chain"
     named = ", ".join(map(str, sorted(run["named"]))) or "nobody"
-    rest = "".join(f", {run[what]} {what}" for what in ("kills", "closings", "rewrites") if run[what])
+    rest = "".join(f", {run[what]} {what}" for what in ("kills", "closings", "rewrites", "late members") if run[what])
     return [
         *found,
         f"{ended['at'] / 1000:.1f} s of the world's time: {ended['chain']} blocks final, {split}",

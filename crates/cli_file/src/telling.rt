@@ -6,7 +6,7 @@ ghost use Rattle.std.specs.Option.{option_map_or};
 ghost use Rattle.cli_settings.specs.Building.{seed_of};
 ghost use Rattle.cli_file.specs.Lines.{alike_lines, alike_title, budget_line, committee_lines, conduct_lines, differing_lines, differing_title, digits_line, is_control, number_line, own_lines, own_title, quoted_byte, record_line, settings_lines, skip_lines, truth_line, truth_word, turns_lines, words_line};
 ghost use Rattle.cli_toml.specs.Saying.{again_word, forward_word};
-ghost use Rattle.cli_toml.specs.declared.key.Key.TheVariants.{Seed};
+ghost use Rattle.cli_toml.specs.declared.key.Key.TheVariants.{HistoricalVotes, Repair, RepairWindow, RewriteViews, Seed};
 
 use cli_settings::{Committee, Conduct, Turns};
 use cli_toml::{Key, MemberFile};
@@ -221,11 +221,21 @@ fn push_conduct(alloc: Global, text: &mut Vec<u8>, conduct: &Conduct) -> Result<
     push_skip(alloc, text, conduct.skip)?;
     let forward = word_of_forwarding(conduct.forward);
     push_words(alloc, text, Key::Forwarding, forward.as_bytes())?;
+    push_kept(alloc, text, conduct)
+}
+
+/// Ends the text with how others are asked, which votes are kept, and how often the record is rewritten.
+fn push_kept(alloc: Global, text: &mut Vec<u8>, conduct: &Conduct) -> Result<(), AllocError>
+    ensures { OnOk result (text.new.items ≡ text.old.items ++ (words_line Repair (again_word conduct.now.repair)
+        ++ (number_line RepairWindow conduct.now.repair_window ++ (truth_line HistoricalVotes conduct.now.track_historical_votes
+        ++ number_line RewriteViews conduct.now.rewrite_views)))) }
+{
     let repair = word_of_repair(conduct.repair);
     push_words(alloc, text, Key::Repair, repair.as_bytes())?;
     push_number(alloc, text, Key::RepairWindow, conduct.repair_window)?;
     let votes = conduct.track_historical_votes;
-    push_truth(alloc, text, Key::HistoricalVotes, votes)
+    push_truth(alloc, text, Key::HistoricalVotes, votes)?;
+    push_number(alloc, text, Key::RewriteViews, conduct.rewrite_views)
 }
 
 /// Ends the text with whether a view may be given up before its deadlines.

@@ -1,7 +1,7 @@
-pub mod HostedDisk
-pub mod Members
+pub mod Held
+pub mod Hosting
 pub mod Pairs
 pub mod Place
-pub mod Requests
 pub mod Serving
+pub mod Sessions
 pub mod Statuses

@@ -9,7 +9,7 @@ use Rattle.cli_opening.specs.Halves.{IsBarredOnHalf, IsFoundOnHalf}
 use Rattle.cli_opening.specs.declared.looking.Barred.{Barred}
 use Rattle.cli_opening.specs.declared.looking.Barred.TheVariants as barred
 use Rattle.cli_opening.specs.declared.looking.Found.{Found}
-use Rattle.cli_hosted.specs.Members.{owner_of}
+use Rattle.cli_opening.specs.Members.{owner_of}
 
 -- behind the head of a generation, where one stands in front, these bytes begin as no record does
 pub record BeginsAsNone (bytes : List ℕ) : Type 0 where

@@ -1,12 +1,17 @@
 -- What lies behind a node's place.
-use Rattle.std.specs.Prelude.{ℕ}
+use Rattle.std.specs.Prelude.{ℕ, Option, None, Some}
 use base.Fml.{Fml, ftrue}
 use mir.Syntax.{Ty}
 use denote.RattleType.{RattleType}
 use denote.RawPtr.{Ptr}
 use Rattle.std.specs.Box.Ownership.{box_owns}
 
--- at 0 nothing is owned, at every other number a box
-abbrev pub owned : (Ty → Ptr → Fml) → (R : RattleType) → ℕ → Ptr → R.Denot → Fml
-owned token R Prim.Native.Nat.zero at x = ftrue
-owned token R (Prim.Native.Nat.suc n) at x = box_owns token R at x
+-- where nothing lies nothing is owned, else a box of what lies there
+abbrev pub owned : (Ty → Ptr → Fml) → (R : RattleType) → Option R.Denot → Ptr → Fml
+owned token R None at = ftrue
+owned token R (Some x) at = box_owns token R at x
+
+-- how many nodes are held
+abbrev pub count_of : {A : Type 0} → Option A → ℕ
+count_of None = 0
+count_of (Some x) = 1

@@ -13,7 +13,7 @@ use Rattle.simplex_member.specs.declared.fault.NodeFault.{NodeFault}
 use Rattle.simplex_member.specs.declared.fault.NodeFault.TheVariants as step
 use Rattle.simplex_member.specs.declared.fault.OpenFault.{OpenFault}
 use Rattle.simplex_member.specs.declared.fault.OpenFault.TheVariants as open_fault
-use Rattle.cli_hosted.specs.Members.{IsFoundFor, owner_of}
+use Rattle.cli_opening.specs.Members.{IsFoundFor, owner_of}
 use Rattle.cli_hosted.specs.declared.status.Status.{Status}
 use Rattle.cli_hosted.specs.declared.status.Status.TheVariants as status
 

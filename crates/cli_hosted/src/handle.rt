@@ -1,6 +1,7 @@
 //! A node as C holds it.
 
-ghost use Rattle.std.specs.Prelude.{◌≡◌, ◌≢◌, None, IsSome};
+ghost use Rattle.std.specs.Prelude.{◌≡◌, ◌≢◌, IfNone, IfSome, IsSome, None, Some};
+ghost use Rattle.cli_hosted.specs.Place.{count_of};
 
 use crate::loose::Loose;
 use crate::place::Place;
@@ -15,13 +16,14 @@ pub struct Handle {
     /// 1 while a node is open, else 0.
     pub live: u32,
     place: Place,
-    ghost agrees: { live ≡ place.full },
+    ghost agrees: { live ≡ count_of place.held },
 }
 
 impl Handle {
     /// No node.
     fn nothing(alloc: Global) -> Handle
-        ensures { result.live ≡ 0 }
+        ensures live { result.live ≡ 0 }
+        ensures held { result.place.held ≡ None }
     {
         Handle {
             live: 0,
@@ -31,7 +33,8 @@ impl Handle {
 
     /// This node.
     pub(crate) fn of(session: Box<Session>) -> Handle
-        ensures { result.live ≡ 1 }
+        ensures live { result.live ≡ 1 }
+        ensures held { result.place.held ≡ Some session.value }
     {
         Handle {
             live: 1,
@@ -40,10 +43,14 @@ impl Handle {
     }
 
     /// The node, if one is open. Behind the call none is.
+    #[tactic(auto, using(crate::proofs::Kept::none_by))]
     pub(crate) fn taken(&mut self, alloc: Global) -> Option<Box<Session>>
         ensures live { self.old.live ≡ 1 → IsSome result }
         ensures dead { self.old.live ≢ 1 → result ≡ None }
+        ensures held { IfSome result (λ session. self.old.place.held ≡ Some session.value) }
+        ensures empty { IfNone result (self.old.place.held ≡ None) }
         ensures left { self.new.live ≡ 0 }
+        ensures none { self.new.place.held ≡ None }
     {
         let was = mem::replace(self, Handle::nothing(alloc));
         if was.live != 1 {

@@ -1,22 +1,21 @@
 //! A member's node whose record a host keeps, as the host holds it between two calls.
 #![tactic(auto)]
 
-mod disk;
 mod found;
 mod handle;
 mod loose;
 mod place;
-mod requests;
-mod room;
+mod promises;
 mod serving;
 mod session;
 mod status;
 mod views;
 
+pub use cli_disk::put;
 pub use found::Found;
 pub use handle::Handle;
 pub use place::Place;
-pub use room::put;
+pub use promises::{Promised, Promises};
 pub use serving::{
     closed, opened, opened_by, opened_pair, opened_pair_by, replies_taken, requests_taken,
     rewritten, stepped, views_told,

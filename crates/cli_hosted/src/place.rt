@@ -1,6 +1,9 @@
 //! Where a node lies between two calls.
 
-ghost use Rattle.std.specs.Prelude.{◌≡◌, ℕ};
+ghost use Rattle.std.specs.Prelude.{◌≡◌, IsSome, None, Option, Some};
+ghost use Rattle.std.specs.Coded.{coded_option};
+ghost use Rattle.cli_hosted.specs.declared.session.Session.{Session as Kept};
+ghost use Rattle.cli_hosted.specs.contracts.session.Session.{the_row};
 
 use crate::loose::Loose;
 use crate::session::Session;
@@ -14,20 +17,20 @@ use std::ptr;
 pub struct Place {
     at: *mut u8,
     alloc: Global,
-    pub ghost full: { ℕ },
+    pub ghost held: { Option Kept } by { coded_option the_row.coded },
 }
 
 impl Model for Place {
     ghost use Rattle.cli_hosted.specs.Place.{owned};
     ghost use Rattle.cli_hosted.specs.contracts.session.Session.{the_row};
 
-    ghost also_owns = { λ p. owned (⟦<Global as Allocator>⟧.dealloc_token p.alloc) the_row p.full p.at tt };
+    ghost also_owns = { λ p. owned (⟦<Global as Allocator>⟧.dealloc_token p.alloc) the_row p.held p.at };
 }
 
 impl Place {
     /// Nothing.
     pub(crate) fn nothing(alloc: Global) -> Place
-        ensures { result.full ≡ 0 }
+        ensures { result.held ≡ None }
     {
         Place {
             at: ptr::null_mut(),
@@ -37,7 +40,7 @@ impl Place {
 
     /// The place of this node.
     pub(crate) fn hiding(session: Loose<Session, Global>) -> Place
-        ensures { result.full ≡ 1 }
+        ensures { result.held ≡ Some session.value }
     {
         let Loose { at, alloc } = session;
         Place {
@@ -48,7 +51,8 @@ impl Place {
 
     /// The node that lies here.
     pub(crate) fn shown(self) -> Loose<Session, Global>
-        requires { self.full ≡ 1 }
+        requires { IsSome self.held }
+        ensures { self.held ≡ Some result.value }
     {
         let Place { at, alloc } = self;
         Loose {

@@ -1,10 +1,16 @@
 //! Calls on a member's node.
 
-ghost use Rattle.std.specs.Prelude.{◌≡◌, ◌≢◌, ◌<◌, ◌≤◌, ◌⊎◌, Ok, Err, IfErr, IfOk, OnOk, false, true};
+ghost use Rattle.std.specs.Prelude.{◌≡◌, ◌≢◌, ◌<◌, ◌≤◌, ◌⊎◌, ℕ, [], Ok, Err, IfErr, IfOk, IfSome, None, OnOk, Option, Result, Some, ⊤, false, length, take, true};
+ghost use Rattle.std.specs.Option.{option_copied};
 ghost use Rattle.journal_look.specs.Look.{BeginsLikeOne};
-ghost use Rattle.cli_settings.specs.Checking.{HasTurns, IsGood};
+ghost use Rattle.cli_settings.specs.Checking.{IsGood};
 ghost use Rattle.cli_opening.specs.Looking.{IsBeyondCut};
-ghost use Rattle.cli_hosted.specs.Members.{IsBarredFor, IsFoundFor, owner_of};
+ghost use Rattle.cli_opening.specs.Members.{IsBarredFor, IsFoundFor};
+ghost use Rattle.simplex_member.specs.declared.fault.IoFault.{IoFault as Ending};
+ghost use Rattle.simplex_member.specs.declared.fault.NodeFault.{NodeFault as Failure};
+ghost use Rattle.cli_hosted.specs.Held.{held_by};
+ghost use Rattle.cli_hosted.specs.Sessions.{node_of, replies_of};
+ghost use Rattle.cli_hosted.specs.declared.session.Session.{Session as Kept};
 ghost use Rattle.cli_hosted.specs.Pairs.{AreBarredAt, AreBarredBy, AreLookedAt, AreLookedAtBy, AreTornAt, AreTornBy, BeginsAsNone};
 ghost use Rattle.cli_hosted.specs.Statuses.{Names, status_number};
 ghost use Rattle.cli_hosted.specs.Serving.{IsLookedAt, IsLookedAtBy, IsTornAt, IsTornBy, barred_place, barred_status, ending_status, rewrite_place, rewrite_status, run_place, run_status, unopened_place, unopened_status, unstepped_status};
@@ -12,16 +18,16 @@ ghost use Rattle.cli_hosted.specs.declared.status.Status.TheVariants.{Argument, 
 
 use crate::found::Found;
 use crate::handle::Handle;
-use crate::requests::take_all;
+use crate::promises::{Promised, Promises};
 use crate::session::Session;
 use crate::status::Status;
 use crate::views::Views;
-use cli_opening::{Barred, Found as Looked, look_at, look_at_by, look_at_half, look_at_half_by};
+use cli_opening::{
+    Barred, Found as Looked, look_at, look_at_by, look_at_half, look_at_half_by, owner_by,
+};
 use cli_settings::Settings;
 use simplex_member::{IoFault, NodeFault, OpenFault};
-use simplex_record::Owner;
 use std::alloc::Global;
-use types_core::{Participant, TermLength};
 
 /// Opens a member's node over its record, where none is open yet and these bytes are one as a crash may leave it. Where `cuts`, its last
 /// gate and what stands behind it may be anything.
@@ -36,6 +42,8 @@ pub fn opened(
     found: &mut Found,
 ) -> Status
     requires { member < members }
+    ensures begun { result ≡ Done
+        → (state : Kept) × (held_by node.new ≡ Some state) × ⟦<Promised as Promises>⟧.begun_as member members stored.now None state }
     ensures opened { result ≡ Done → node.new.live ≡ 1 }
     ensures unopened { result ≢ Done → node.new ≡ node.old }
     ensures looked { result ≡ Done → IsLookedAt member members cuts stored.now }
@@ -66,6 +74,8 @@ pub fn opened_by(
     found: &mut Found,
 ) -> Status
     requires { IsGood settings.now }
+    ensures begun { result ≡ Done
+        → (state : Kept) × (held_by node.new ≡ Some state) × ⟦<Promised as Promises>⟧.begun_by settings.now stored.now None state }
     ensures opened { result ≡ Done → node.new.live ≡ 1 }
     ensures unopened { result ≢ Done → node.new ≡ node.old }
     ensures looked { result ≡ Done → IsLookedAtBy settings.now cuts stored.now }
@@ -96,6 +106,8 @@ pub fn opened_pair(
     found: &mut Found,
 ) -> Status
     requires { member < members }
+    ensures begun { result ≡ Done
+        → (state : Kept) × (held_by node.new ≡ Some state) × ⟦<Promised as Promises>⟧.begun_as member members stored.now (Some second.now) state }
     ensures opened { result ≡ Done → node.new.live ≡ 1 }
     ensures unopened { result ≢ Done → node.new ≡ node.old }
     ensures looked { result ≡ Done → AreLookedAt member members cuts stored.now second.now }
@@ -126,6 +138,8 @@ pub fn opened_pair_by(
     found: &mut Found,
 ) -> Status
     requires { IsGood settings.now }
+    ensures begun { result ≡ Done
+        → (state : Kept) × (held_by node.new ≡ Some state) × ⟦<Promised as Promises>⟧.begun_by settings.now stored.now (Some second.now) state }
     ensures opened { result ≡ Done → node.new.live ≡ 1 }
     ensures unopened { result ≢ Done → node.new ≡ node.old }
     ensures looked { result ≡ Done → AreLookedAtBy settings.now cuts stored.now second.now }
@@ -198,21 +212,10 @@ fn look_by(alloc: Global, settings: &Settings, cuts: bool, stored: &[u8]) -> Res
     }
 }
 
-/// Whose record a member's is by its settings.
-fn owner_by(settings: &Settings) -> Owner
-    requires { HasTurns settings.now.committee.turns }
-    ensures { result ≡ owner_of settings.now }
-{
-    let committee = &settings.committee;
-    Owner {
-        epoch: committee.epoch,
-        term_length: TermLength::new(committee.turns.length),
-        signer: Participant::new(settings.member),
-    }
-}
-
 /// What became of an opening.
 fn begun(opening: Result<Box<Session>, OpenFault>, node: &mut Handle, found: &mut Found) -> Status
+    ensures held { IfOk opening (λ session. held_by node.new ≡ Some session.value) }
+    ensures not_held { IfErr opening (λ _. result ≢ Done) }
     ensures opened { result ≡ Done → node.new.live ≡ 1 }
     ensures unopened { result ≢ Done → node.new ≡ node.old }
     ensures bound { status_number result ≤ 10 }
@@ -259,6 +262,9 @@ fn place_of(why: Barred) -> Option<u64>
 
 /// Has the node answer events.
 pub fn stepped(alloc: Global, node: &mut Handle, events: &[u8], found: &mut Found) -> Status
+    ensures answered { IfSome (held_by node.old) (λ old.
+        (new : Kept) × (ended : Result ⊤ Ending) × (held_by node.new ≡ Some new) × ⟦<Promised as Promises>⟧.answered old events.now ended new
+        × (result ≡ run_status ended) × Names found.new.named found.new.place (run_place ended)) }
     ensures dead { node.old.live ≢ 1 → (result ≡ Argument) × (node.new.live ≡ 0) }
     ensures live { node.old.live ≡ 1 → node.new.live ≡ 1 }
     ensures named { result ≡ Invalid → found.new.named ≡ 1 }
@@ -276,6 +282,9 @@ pub fn stepped(alloc: Global, node: &mut Handle, events: &[u8], found: &mut Foun
 /// Rewrites the node's record, where there is something to rewrite: then the view is named behind which it begins. What that asks of
 /// the host waits as behind a step.
 pub fn rewritten(alloc: Global, node: &mut Handle, found: &mut Found) -> Status
+    ensures shortened { IfSome (held_by node.old) (λ old.
+        (new : Kept) × (ended : Result (Option ℕ) Failure) × (held_by node.new ≡ Some new) × ⟦<Promised as Promises>⟧.shortened old ended new
+        × (result ≡ rewrite_status ended) × Names found.new.named found.new.place (rewrite_place ended)) }
     ensures dead { node.old.live ≢ 1 → (result ≡ Argument) × (node.new.live ≡ 0) }
     ensures live { node.old.live ≡ 1 → node.new.live ≡ 1 }
     ensures answers { (result ≡ Done) ⊎ ((result ≡ Memory) ⊎ ((result ≡ Argument) ⊎ ((result ≡ Device) ⊎ (result ≡ Failed)))) }
@@ -296,9 +305,11 @@ pub fn requests_taken(
     room: &mut [u8],
     found: &mut Found,
 ) -> Status
+    ensures held { held_by node.new ≡ held_by node.old }
     ensures dead { node.old.live ≢ 1 → (result ≡ Argument) × (node.new.live ≡ 0) }
     ensures live { node.old.live ≡ 1 → node.new.live ≡ 1 }
     ensures answers { (result ≡ Done) ⊎ ((result ≡ Argument) ⊎ (result ≡ Room)) }
+    ensures fits { result ≡ Done → found.new.length ≤ length room.old }
     ensures unwritten { result ≢ Done → room.new ≡ room.old }
     ensures unnamed { result ≢ Argument → found.new.named ≡ 0 }
 {
@@ -312,6 +323,15 @@ pub fn requests_taken(
 
 /// Puts the replies at the front of the room, where they fit.
 pub fn replies_taken(alloc: Global, node: &mut Handle, room: &mut [u8], found: &mut Found) -> Status
+    ensures taken { IfSome (held_by node.old) (λ old.
+        result ≡ Done
+        → (left : Kept) × (held_by node.new ≡ Some left) × (length (replies_of old) ≤ length room.old)
+        × (take (length (replies_of old)) room.new ≡ replies_of old) × (node_of left ≡ node_of old) × (replies_of left ≡ [])) }
+    ensures no_room { IfSome (held_by node.old) (λ old.
+        result ≢ Done
+        → (left : Kept) × (held_by node.new ≡ Some left) × (length room.old < length (replies_of old)) × (node_of left ≡ node_of old)
+        × (replies_of left ≡ replies_of old)) }
+    ensures length { IfSome (held_by node.old) (λ old. found.new.length ≡ length (replies_of old)) }
     ensures dead { node.old.live ≢ 1 → (result ≡ Argument) × (node.new.live ≡ 0) }
     ensures live { node.old.live ≡ 1 → node.new.live ≡ 1 }
     ensures answers { (result ≡ Done) ⊎ ((result ≡ Argument) ⊎ (result ≡ Room)) }
@@ -321,13 +341,15 @@ pub fn replies_taken(alloc: Global, node: &mut Handle, room: &mut [u8], found: &
     let Some(mut session) = node.taken(alloc) else {
         return Status::Argument;
     };
-    let taken = take_all(session.replies(), room);
+    let taken = session.take_replies(room);
     *node = Handle::of(session);
     fitted(taken, found)
 }
 
 /// Tells the view that the node is in, and the last that is final.
 pub fn views_told(alloc: Global, node: &mut Handle, views: &mut Views) -> Status
+    ensures held { held_by node.new ≡ held_by node.old }
+    ensures views { IfSome (held_by node.old) (λ state. ⟦<Promised as Promises>⟧.is_in state views.new.current views.new.finalized) }
     ensures dead { node.old.live ≢ 1 → (result ≡ Argument) × (node.new.live ≡ 0) × (views.new ≡ views.old) }
     ensures live { node.old.live ≡ 1 → (result ≡ Done) × (node.new.live ≡ 1) }
 {
@@ -343,6 +365,7 @@ pub fn views_told(alloc: Global, node: &mut Handle, views: &mut Views) -> Status
 
 /// Lets the node go.
 pub fn closed(alloc: Global, node: &mut Handle) -> Status
+    ensures held { held_by node.new ≡ None }
     ensures live { node.old.live ≡ 1 → result ≡ Done }
     ensures dead { node.old.live ≢ 1 → result ≡ Argument }
     ensures left { node.new.live ≡ 0 }
@@ -357,6 +380,7 @@ pub fn closed(alloc: Global, node: &mut Handle) -> Status
 fn fitted(taken: Result<usize, usize>, found: &mut Found) -> Status
     ensures done { result ≡ Done → taken ≡ Ok found.new.length }
     ensures room { result ≢ Done → (result ≡ Room) × (taken ≡ Err found.new.length) }
+    ensures size { (taken ≡ Ok found.new.length) ⊎ (taken ≡ Err found.new.length) }
     ensures unnamed { found.new.named ≡ 0 }
 {
     match taken {

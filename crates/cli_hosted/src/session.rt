@@ -1,25 +1,31 @@
 //! A member's node between two calls.
 
-ghost use Rattle.std.specs.Prelude.{◌≡◌, ◌<◌, ◌++◌, ℕ, IfOk, None, OnErr, Some, true};
+ghost use Rattle.std.specs.Prelude.{◌≡◌, ◌<◌, ◌≤◌, ◌++◌, ◌⊎◌, ℕ, [], Err, IfOk, IsErrOf, None, Ok, OnErr, OnOk, Some, length, take, true};
 ghost use Rattle.std.specs.Option.{option_copied};
 ghost use Rattle.cli_settings.specs.Building.{config_of};
 ghost use Rattle.cli_settings.specs.Checking.{IsGood};
-ghost use Rattle.cli_hosted.specs.HostedDisk.{disks_over, untouched};
-ghost use Rattle.cli_hosted.specs.Members.{AreLeaders, PlainReply, committee_of};
-ghost use Rattle.journal_books.specs.Books.{are_two, may_rewrite};
+ghost use Rattle.cli_disk.specs.HostedDisk.{IsFresh};
+ghost use Rattle.cli_opening.specs.Members.{AreLeaders, committee_of};
+ghost use Rattle.cli_hosted.specs.Hosting.{AreFresh};
+ghost use Rattle.cli_hosted.specs.Sessions.{PlainReply};
+ghost use Rattle.journal_books.specs.Books.{Leave, are_two, may_rewrite};
 ghost use Rattle.simplex_member.specs.declared.action.Reply.{Reply};
+ghost use Rattle.simplex_member.specs.declared.fault.NodeFault.TheVariants.{Failed};
+ghost use Rattle.simplex_member.specs.Member.{NoneDue};
 ghost use Rattle.simplex_member.specs.Recorded.{kept_of};
 ghost use Rattle.simplex_member.specs.Setup.{brought_by, setup_of};
+ghost use Rattle.node_core.specs.Rewriting.{IsLeftByRewrite};
 ghost use Rattle.node_record.specs.Ledger.{next_view};
 ghost use Rattle.node_steps.specs.Keeps.{AtOwn, book_of, disks_of, has_failed};
 ghost use Rattle.node_steps.specs.Opening.{IsOpenAndSettled};
 ghost use Rattle.node_steps.specs.Rewriting.{NodeIsRewritten};
-ghost use Rattle.simplex_node.specs.Running.{RunFails, RunsTo};
+ghost use Rattle.simplex_cli.specs.Settings.{program_committee, program_config, program_rotation};
+ghost use Rattle.simplex_node.specs.Running.{LeavesPassed, RunFails, RunsTo};
 ghost use Rattle.node_wire.specs.Streaming.{EndsIn, spelled};
 ghost use Rattle.types_terms.specs.Rotation.{Rotation};
 
-use crate::disk::HostedDisk;
-use crate::requests::{File, Requests};
+use crate::promises::{Promised, Promises};
+use cli_disk::{File, HostedDisk, Requests, take_all};
 use cli_settings::Settings;
 use journal_books::Disks;
 use journal_single::Disk;
@@ -30,7 +36,6 @@ use simplex_member::{IoFault, NodeFault, OpenFault, Reply, Speaks};
 use simplex_node::{open_disks_io, run_io};
 use simplex_types::{AttestationList, PlainKey, PlainScheme, PlainSignature};
 use std::alloc::{AllocError, Global};
-use std::marker::Model;
 use std::mem;
 use std::rc::Rc;
 use types_core::{Digest, Scheme, Sha256Digest, Write};
@@ -61,15 +66,6 @@ impl Drop for Session {
     }
 }
 
-// Nothing of a node is told between two calls.
-impl Model for Session {
-    ghost use Rattle.std.specs.Prelude.{⊤};
-
-    ghost Value = { ⊤ };
-
-    ghost view = { λ _. tt };
-}
-
 impl Session {
     /// Opens a member's node over its record at moment 0, set up as the program's; what that hands out is the first reply. The record
     /// stands in the file of these bytes, or also in a second one.
@@ -81,6 +77,7 @@ impl Session {
         second: Option<&[u8]>,
     ) -> Result<Box<Session>, OpenFault>
         requires { member < members }
+        ensures { IfOk result (λ it. ⟦<Promised as Promises>⟧.begun_as member members stored.now (option_copied second.entry) it.value) }
     {
         let Ok((disks, requests)) = hosted(alloc, stored, second) else {
             return Err(OpenFault::Memory);
@@ -98,6 +95,7 @@ impl Session {
         second: Option<&[u8]>,
     ) -> Result<Box<Session>, OpenFault>
         requires { IsGood settings.now }
+        ensures { IfOk result (λ it. ⟦<Promised as Promises>⟧.begun_by settings.now stored.now (option_copied second.entry) it.value) }
     {
         let Ok((disks, requests)) = hosted(alloc, stored, second) else {
             return Err(OpenFault::Memory);
@@ -108,12 +106,16 @@ impl Session {
     }
 
     /// Answers events, one behind another; the replies are put behind those that were not taken yet.
-    pub(crate) fn step(&mut self, alloc: Global, events: &[u8]) -> Result<(), IoFault> {
+    pub(crate) fn step(&mut self, alloc: Global, events: &[u8]) -> Result<(), IoFault>
+        ensures { ⟦<Promised as Promises>⟧.answered self.old events.now result self.new }
+    {
         go_on(alloc, &mut self.node, events, &mut self.replies)
     }
 
     /// Rewrites the record, where there is something to rewrite, and tells the view behind which it begins then.
-    pub(crate) fn rewrite(&mut self) -> Result<Option<u64>, NodeFault> {
+    pub(crate) fn rewrite(&mut self) -> Result<Option<u64>, NodeFault>
+        ensures { ⟦<Promised as Promises>⟧.shortened self.old result self.new }
+    {
         shorten(&mut self.node)
     }
 
@@ -122,13 +124,24 @@ impl Session {
         &self.requests
     }
 
-    /// The replies that were not taken yet.
-    pub(crate) fn replies(&mut self) -> &mut Vec<u8> {
-        &mut self.replies
+    /// Takes the replies that wait, where they fit at the front of the room, and answers their size.
+    pub(crate) fn take_replies(&mut self, room: &mut [u8]) -> Result<usize, usize>
+        ensures node { self.new.node ≡ self.old.node }
+        ensures taken { OnOk result (self.new.replies.items ≡ []) }
+        ensures done { OnOk result ((length self.old.replies.items ≤ length room.old)
+            × (take (length self.old.replies.items) room.new ≡ self.old.replies.items)) }
+        ensures size { (size : ℕ) → (result ≡ Ok size ⊎ result ≡ Err size) → size ≡ length self.old.replies.items }
+        ensures no_room { OnErr result (length room.old < length self.old.replies.items) }
+        ensures unwritten { OnErr result (room.new ≡ room.old) }
+        ensures kept { OnErr result (self.new.replies.items ≡ self.old.replies.items) }
+    {
+        take_all(&mut self.replies, room)
     }
 
     /// The view that the node is in, and the last that is final.
-    pub(crate) fn views(&self) -> (u64, u64) {
+    pub(crate) fn views(&self) -> (u64, u64)
+        ensures { ⟦<Promised as Promises>⟧.is_in self.now result.0 result.1 }
+    {
         let current = self.node.current_view().get();
         (current, self.node.last_finalized().get())
     }
@@ -140,7 +153,7 @@ fn hosted(
     stored: &[u8],
     second: Option<&[u8]>,
 ) -> Result<(Disks<HostedDisk>, Requests), AllocError>
-    ensures { IfOk result (λ r. r.0 ≡ disks_over stored.now (option_copied second.entry)) }
+    ensures { IfOk result (λ r. AreFresh stored.now (option_copied second.entry) r.0) }
 {
     let requests = Requests::new(alloc)?;
     let first = disk_over(alloc, File::First, stored, &requests)?;
@@ -158,7 +171,7 @@ fn disk_over(
     stored: &[u8],
     requests: &Requests,
 ) -> Result<HostedDisk, AllocError>
-    ensures { IfOk result (λ disk. disk ≡ untouched file stored.now) }
+    ensures { IfOk result (IsFresh file stored.now) }
 {
     let shared = requests.shared()?;
     let stored = Vec::from_slice(alloc, stored)?;
@@ -181,7 +194,9 @@ fn held(
     node: Result<Hosted, OpenFault>,
     requests: Requests,
     replies: Vec<u8>,
-) -> Result<Box<Session>, OpenFault> {
+) -> Result<Box<Session>, OpenFault>
+    ensures { IfOk result (λ it. (node ≡ Ok it.value.node) × (it.value.replies.items ≡ replies.items)) }
+{
     match node {
         Ok(node) => boxed(
             alloc,
@@ -204,6 +219,15 @@ fn set_up<K: Disk>(
     replies: &mut Vec<u8>,
 ) -> Result<Node<PlainScheme, RoundRobinElector, Sha256Digest, K>, OpenFault>
     requires { member < members }
+    ensures opened { IfOk result (λ node.
+        (first : PlainReply) × (first.refused ≡ None) ×
+        (replies.new.items ≡ replies.old.items ++ spelled ⟦<PlainKey as Write>⟧.spelling ⟦<Sha256Digest as Write>⟧.spelling
+        ⟦<PlainSignature as Write>⟧.spelling ⟦<AttestationList<PlainSignature> as Write>⟧.spelling first) ×
+        IsOpenAndSettled ⟦<PlainScheme as Scheme<Sha256Digest>>⟧ ⟦<RoundRobinElector as Elector<PlainScheme, Sha256Digest>>⟧ K.Disk
+        (⟦<PlainScheme as Speaks<Sha256Digest>>⟧.formats members)
+        (setup_of ⟦<PlainScheme as Scheme<Sha256Digest>>⟧ ⟦<RoundRobinElector as Elector<PlainScheme, Sha256Digest>>⟧
+        program_config (program_committee member members) (program_rotation members) member)
+        ⟦<PlainScheme as Speaks<Sha256Digest>>⟧.readable None disks 0 node first.actions.items) }
     ensures as_many { IfOk result (λ node. are_two (disks_of node) ≡ are_two disks) }
 {
     let Ok(scheme) = scheme(alloc, member, members) else {
@@ -284,10 +308,13 @@ fn go_on<S: Scheme<D> + Drop, L: Elector<S, D>, D: Digest, K: Disk>(
     events: &[u8],
     replies: &mut Vec<u8>,
 ) -> Result<(), IoFault>
-    ensures { AtOwn S.Scheme L.Elector K.Disk ⟦<S as Speaks<D>>⟧.formats node.old (λ f s h.
+    ensures answered { AtOwn S.Scheme L.Elector K.Disk ⟦<S as Speaks<D>>⟧.formats node.old (λ f s h.
         EndsIn D.fits D.spelling (spelled S.PublicKey.spelling D.spelling S.Signature.spelling S.Certificate.spelling) (D.reading 65535)
         (RunsTo S.Scheme L.Elector K.Disk f s h node.new) (RunFails S.Scheme L.Elector K.Disk f s h node.new) ⊥ result (Some events.now)
         (Some replies.old.items) (Some replies.new.items)) }
+    ensures any_moment { AtOwn S.Scheme L.Elector K.Disk ⟦<S as Speaks<D>>⟧.formats node.old (λ f s h.
+        K.keeps → LeavesPassed S.Scheme f s K.Disk D.fits D.spelling h (Some events.now) (book_of node.old) (book_of node.new)) }
+    ensures failed { has_failed node.old ≡ true → (node.new ≡ node.old) × (replies.new.items ≡ replies.old.items) }
 {
     let mut input = events;
     let mut output = CountedWriter::new(mem::replace(replies, Vec::new(alloc)));
@@ -309,6 +336,10 @@ fn shorten<S: Scheme<D> + Drop, L: Elector<S, D>, D: Digest, K: Disk>(
         (λ f s h. NodeIsRewritten S.Scheme L.Elector K.Disk f s node.new h floor)) }
     ensures none { IfOk result (λ view. view ≡ None → node.new ≡ node.old) }
     ensures failed { OnErr result (has_failed node.new ≡ true) }
+    ensures refused { has_failed node.old ≡ true → IsErrOf result Failed × (node.new ≡ node.old) }
+    ensures only_failed { IsErrOf result Failed → has_failed node.old ≡ true }
+    ensures any_moment { AtOwn S.Scheme L.Elector K.Disk ⟦<S as Speaks<D>>⟧.formats node.old (λ f s h.
+        NoneDue S.Scheme f s h → K.keeps → Leave K.Disk (disks_of node.old) (disks_of node.new) (IsLeftByRewrite S.Scheme f s h)) }
 {
     match node.rewrite() {
         Ok(Some(view)) => Ok(Some(view.get())),

@@ -23,7 +23,7 @@ use cli_settings::Settings;
 use journal_books::Disks;
 use journal_single::Disk;
 use node_wire::{Sink, Source};
-use simplex_cli::{Ending, serve_over, tell};
+use simplex_cli::{Ending, serve_over, serve_rewriting, tell};
 use simplex_member::Speaks;
 use simplex_types::{AttestationList, PlainKey, PlainScheme, PlainSignature};
 use std::alloc::Global;
@@ -32,8 +32,8 @@ use types_core::{Read, Scheme, Sha256Digest, Write};
 use types_terms::elector::{Elector, RoundRobinElector};
 
 /// Runs the member of these settings over one disk or two: opens its record at moment 0, writes what the opening hands out as a reply,
-/// then answers the events of `input` on `output`. At the end of the input between two events the record of two disks is rewritten. How
-/// that ended, with the disks.
+/// then answers the events of `input` on `output`. At the end of the input between two events the record of two disks is rewritten, and
+/// before that whenever as many views more are final as the settings say, if they do. How that ended, with the disks.
 pub fn drive_member<K: Disk, R: Source, W: Sink>(
     alloc: Global,
     settings: &Settings,
@@ -50,7 +50,7 @@ pub fn drive_member<K: Disk, R: Source, W: Sink>(
         (config_of settings.now) (committee_of settings.now) leaders settings.now.member)
         ⟦<Sha256Digest as Write>⟧.fits ⟦<Sha256Digest as Write>⟧.spelling
         (spelled ⟦<PlainKey as Write>⟧.spelling ⟦<Sha256Digest as Write>⟧.spelling ⟦<PlainSignature as Write>⟧.spelling
-        ⟦<AttestationList<PlainSignature> as Write>⟧.spelling) (⟦<Sha256Digest as Read>⟧.reading 65535) settings.now.committee
+        ⟦<AttestationList<PlainSignature> as Write>⟧.spelling) (⟦<Sha256Digest as Read>⟧.reading 65535) settings.now.conduct.rewrite_views settings.now.committee
         ⟦<PlainScheme as Speaks<Sha256Digest>>⟧.readable disks result.1 0 (R.failed input.new ≡ counted false (R.failed input.old))
         (output.new ≡ output.old) result.0 (R.remaining input.old) (W.contents output.old) (W.contents output.new) }
     ensures as_many { are_two result.1 ≡ are_two disks }
@@ -61,15 +61,13 @@ pub fn drive_member<K: Disk, R: Source, W: Sink>(
     let Ok(elector) = settings.committee.elector(alloc) else {
         return (Err(Ending::Memory), disks);
     };
-    serve_over(
-        alloc,
-        settings.config(),
-        scheme,
-        elector,
-        disks,
-        0,
-        input,
-        output,
+    let config = settings.config();
+    let views = settings.conduct.rewrite_views;
+    if views == 0 {
+        return serve_over(alloc, config, scheme, elector, disks, 0, input, output);
+    }
+    serve_rewriting(
+        alloc, config, scheme, elector, disks, 0, views, input, output,
     )
 }
 
@@ -99,7 +97,7 @@ pub fn pair_over<K: Disk, R: Source, W: Sink, F: Writes>(
         (config_of settings.now) (committee_of settings.now) leaders settings.now.member)
         ⟦<Sha256Digest as Write>⟧.fits ⟦<Sha256Digest as Write>⟧.spelling
         (spelled ⟦<PlainKey as Write>⟧.spelling ⟦<Sha256Digest as Write>⟧.spelling ⟦<PlainSignature as Write>⟧.spelling
-        ⟦<AttestationList<PlainSignature> as Write>⟧.spelling) (⟦<Sha256Digest as Read>⟧.reading 65535) settings.now.committee
+        ⟦<AttestationList<PlainSignature> as Write>⟧.spelling) (⟦<Sha256Digest as Read>⟧.reading 65535) settings.now.conduct.rewrite_views settings.now.committee
         ⟦<PlainScheme as Speaks<Sha256Digest>>⟧.readable (Two first second) result.1 0
         (R.failed input.new ≡ counted false (R.failed input.old)) (output.new ≡ output.old) ended (R.remaining input.old)
         (W.contents output.old) (W.contents output.new) }
@@ -139,7 +137,7 @@ pub fn member_over<K: Disk, R: Source, W: Sink, F: Writes>(
         (config_of settings.now) (committee_of settings.now) leaders settings.now.member)
         ⟦<Sha256Digest as Write>⟧.fits ⟦<Sha256Digest as Write>⟧.spelling
         (spelled ⟦<PlainKey as Write>⟧.spelling ⟦<Sha256Digest as Write>⟧.spelling ⟦<PlainSignature as Write>⟧.spelling
-        ⟦<AttestationList<PlainSignature> as Write>⟧.spelling) (⟦<Sha256Digest as Read>⟧.reading 65535) settings.now.committee
+        ⟦<AttestationList<PlainSignature> as Write>⟧.spelling) (⟦<Sha256Digest as Read>⟧.reading 65535) settings.now.conduct.rewrite_views settings.now.committee
         ⟦<PlainScheme as Speaks<Sha256Digest>>⟧.readable (One on) (One result.1) 0 (R.failed input.new ≡ counted false (R.failed input.old))
         (output.new ≡ output.old) ended (R.remaining input.old) (W.contents output.old) (W.contents output.new)) }
 {

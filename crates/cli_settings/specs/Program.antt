@@ -13,7 +13,7 @@ program_turns = record { length = 4; stall_timeout = 10000; optimistic_views = 2
 
 -- a second for a proposal, two for a verdict, five until a vote is sent again; ten views are kept; a leader that was silent for
 -- eight seconds is passed over, as often as there are members; nothing is forwarded, each ask goes once, all at once, and each vote is
--- kept
+-- kept; a record is rewritten at the end of an input alone
 abbrev pub program_conduct : Conduct
 program_conduct = record {
   leader_timeout = 1000;
@@ -25,6 +25,7 @@ program_conduct = record {
   repair = again.Once;
   repair_window = 0;
   track_historical_votes = true;
+  rewrite_views = 0;
 }
 
 -- how each other program is, where nothing else is set: asks go again with each repeated nullify, for 1,024 views at once

@@ -57,6 +57,8 @@ pub struct Conduct {
     pub repair_window: u64,
     /// Whether each vote is kept until its view is dropped, also behind a certificate and of views that were skipped.
     pub track_historical_votes: bool,
+    /// How many views are finalized between two rewrites of a record on two disks. With 0 at the end of the input alone.
+    pub rewrite_views: u64,
 }
 
 /// How a member is set up.
@@ -101,6 +103,7 @@ impl Conduct {
             repair: Again::Once,
             repair_window: 0,
             track_historical_votes: true,
+            rewrite_views: 0,
         }
     }
 

@@ -26,6 +26,7 @@ key_name key.Forwarding = codes "forwarding"
 key_name key.Repair = codes "repair"
 key_name key.RepairWindow = codes "repair-window"
 key_name key.HistoricalVotes = codes "historical-votes"
+key_name key.RewriteViews = codes "rewrite-views"
 
 -- the name is a key's
 abbrev pub IsKey : List ℕ → Type 0

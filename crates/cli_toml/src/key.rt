@@ -49,6 +49,8 @@ pub enum Key {
     RepairWindow,
     /// Whether each vote is kept until its view is dropped.
     HistoricalVotes,
+    /// How many views are finalized between two rewrites of the record.
+    RewriteViews,
 }
 
 impl Key {
@@ -78,6 +80,7 @@ impl Key {
             Key::Repair => "repair",
             Key::RepairWindow => "repair-window",
             Key::HistoricalVotes => "historical-votes",
+            Key::RewriteViews => "rewrite-views",
         }
     }
 
@@ -108,6 +111,7 @@ impl Key {
             "repair" => Some(Key::Repair),
             "repair-window" => Some(Key::RepairWindow),
             "historical-votes" => Some(Key::HistoricalVotes),
+            "rewrite-views" => Some(Key::RewriteViews),
             _ => None,
         }
     }

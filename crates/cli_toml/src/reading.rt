@@ -202,6 +202,7 @@ fn conduct_in(table: &Table) -> Result<Conduct, ValueFault>
             Key::HistoricalVotes,
             usual.track_historical_votes,
         )?,
+        rewrite_views: number_or(table, Key::RewriteViews, usual.rewrite_views)?,
     })
 }
 

@@ -4,7 +4,7 @@ use Rattle.std.specs.Prelude.{Bool, true, false}
 use Rattle.types_codec.specs.Truth.{truth_spelling}
 use Rattle.types_codec.specs.Varint.{varint, length-varint}
 use Rattle.node_wire.specs.Event.{EventValue, Packet, Built, Checked, Verdict, Moment, IsEvent, event_body, event_fits, event_spelling, event_within, longest_event, payload_length}
-use Rattle.node_wire.specs.Parts.{answer_byte, channel_byte, counted_spelling, optional_body, optional_length, optional_spelling}
+use Rattle.node_wire.specs.Parts.{answer_byte, channel_byte, counted_spelling, optional_body, optional_spelling}
 
 -- a truth value has one byte
 one_byte : (ok : Bool) → length (truth_spelling ok) ≡ 1

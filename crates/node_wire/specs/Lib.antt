@@ -1,6 +1,8 @@
 pub mod Over
 pub mod Stepper
 pub mod Streaming
+pub mod Amid
+pub mod OverAmid
 pub mod Event
 pub mod EventCodec
 pub mod Parts

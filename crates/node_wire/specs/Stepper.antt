@@ -28,3 +28,21 @@ abbrev pub EndsList : {S D P G C : Type 0} → (List (Event D) → List (Reply S
     → List (Event D) → List (Reply S D P G C) → Option NodeFault → Type 0
 EndsList Answered Failed events replies None = Answered events replies
 EndsList {D = D} Answered Failed events replies (Some why) = (answered : List (Event D)) × (event : Event D) × (left : List (Event D)) × (events ≡ answered ++ event ∷ left) × Failed answered replies event why
+
+-- of events and replies, by which of them were there before
+module _ {S D P G C : Type 0} (before : List (Event D)) (said : List (Reply S D P G C)) where
+  -- the others of these events were answered by the others of these replies
+  pub record Behind (Answered : List (Event D) → List (Reply S D P G C) → Type 0) (events : List (Event D)) (replies : List (Reply S D P G C)) : Type 0 where
+    pub later : List (Event D)
+    pub answers : List (Reply S D P G C)
+    pub split : events ≡ before ++ later
+    pub replied : replies ≡ said ++ answers
+    pub answered : Answered later answers
+
+  -- they were, and at the event behind them a step failed
+  pub record FailsBehind (Failed : List (Event D) → List (Reply S D P G C) → Event D → NodeFault → Type 0) (events : List (Event D)) (replies : List (Reply S D P G C)) (event : Event D) (why : NodeFault) : Type 0 where
+    pub later : List (Event D)
+    pub answers : List (Reply S D P G C)
+    pub split : events ≡ before ++ later
+    pub replied : replies ≡ said ++ answers
+    pub failed : Failed later answers event why

@@ -12,6 +12,7 @@ mod replying;
 mod stepper;
 mod streaming;
 mod streams;
+mod stretch;
 
 pub use counted::{CountedReader, CountedWriter};
 pub use event::{read_event, write_event};
@@ -20,5 +21,6 @@ pub use listing::{Answers, answer_list};
 pub use reply::write_reply;
 pub use replying::write_out;
 pub use stepper::Stepper;
-pub use streaming::answer_stream;
+pub use streaming::{answer_some, answer_stream};
 pub use streams::{Sink, Source, StreamFault};
+pub use stretch::{Pause, Stretch};

@@ -1,2 +1,3 @@
-pub mod Unfit
+pub mod Holding
 pub mod Numbers
+pub mod Unfit

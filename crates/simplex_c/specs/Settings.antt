@@ -59,6 +59,7 @@ module _ (n : SettingsNumbers) where
     pub repair : n.repair ≡ again_number c.repair
     pub repair_window : c.repair_window ≡ n.repair_window
     pub track_historical_votes : n.historical_votes ≡ truth_number c.track_historical_votes
+    pub rewrite_views : c.rewrite_views ≡ 0
 
   -- the seed, where leaders are shuffled
   abbrev pub SaysSeed : List ℕ → Option (List ℕ) → Type 0

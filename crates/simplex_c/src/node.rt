@@ -1,13 +1,19 @@
 //! A member's node for callers in C, which hold it between two calls.
 
-ghost use Rattle.std.specs.Prelude.{◌≡◌, ◌≢◌, ◌⊎◌, ◌≤◌};
+ghost use Rattle.std.specs.Prelude.{◌≡◌, ◌≢◌, ◌⊎◌, ◌<◌, ◌≤◌, ℕ, [], IfSome, None, Option, Result, Some, length, take, ⊤};
 ghost use Rattle.journal_look.specs.Look.{BeginsLikeOne};
+ghost use Rattle.simplex_member.specs.declared.fault.IoFault.{IoFault};
+ghost use Rattle.simplex_member.specs.declared.fault.NodeFault.{NodeFault};
+ghost use Rattle.cli_hosted.specs.Held.{held_by};
 ghost use Rattle.cli_hosted.specs.Pairs.{AreLookedAt, AreTornAt, BeginsAsNone};
-ghost use Rattle.cli_hosted.specs.Serving.{IsLookedAt, IsTornAt, asks};
+ghost use Rattle.cli_hosted.specs.Serving.{IsLookedAt, IsTornAt, asks, rewrite_place, rewrite_status, run_place, run_status};
+ghost use Rattle.cli_hosted.specs.Sessions.{node_of, replies_of};
+ghost use Rattle.cli_hosted.specs.Statuses.{Names, status_number};
+ghost use Rattle.cli_hosted.specs.declared.session.Session.{Session as Kept};
 
 use cli_hosted::{
-    Found, Handle, Status, Views, closed, opened, opened_pair, replies_taken, requests_taken,
-    rewritten, stepped, views_told,
+    Found, Handle, Promised, Promises, Status, Views, closed, opened, opened_pair, replies_taken,
+    requests_taken, rewritten, stepped, views_told,
 };
 use std::alloc::Global;
 
@@ -29,6 +35,8 @@ pub extern "C" fn voumlis_proved_node_open(
 ) -> u32
     ensures stranger { members ≤ member → result ≡ 2 }
     ensures occupied { node.old.live ≢ 0 → result ≡ 2 }
+    ensures begun { result ≡ 0
+        → (state : Kept) × (held_by node.new ≡ Some state) × ⟦<Promised as Promises>⟧.begun_as member members stored.now None state }
     ensures opened { result ≡ 0 → node.new.live ≡ 1 }
     ensures unopened { result ≢ 0 → node.new ≡ node.old }
     ensures looked { result ≡ 0 → IsLookedAt member members (asks cuts) stored.now }
@@ -65,6 +73,9 @@ pub extern "C" fn voumlis_proved_node_open_pair(
 ) -> u32
     ensures stranger { members ≤ member → result ≡ 2 }
     ensures occupied { node.old.live ≢ 0 → result ≡ 2 }
+    ensures begun { result ≡ 0
+        → (state : Kept) × (held_by node.new ≡ Some state)
+        × ⟦<Promised as Promises>⟧.begun_as member members stored.now (Some second.now) state }
     ensures opened { result ≡ 0 → node.new.live ≡ 1 }
     ensures unopened { result ≢ 0 → node.new ≡ node.old }
     ensures looked { result ≡ 0 → AreLookedAt member members (asks cuts) stored.now second.now }
@@ -101,6 +112,9 @@ pub extern "C" fn voumlis_proved_node_step(
     events: &[u8],
     found: &mut Found,
 ) -> u32
+    ensures answered { IfSome (held_by node.old) (λ old.
+        (new : Kept) × (ended : Result ⊤ IoFault) × (held_by node.new ≡ Some new) × ⟦<Promised as Promises>⟧.answered old events.now ended new
+        × (result ≡ status_number (run_status ended)) × Names found.new.named found.new.place (run_place ended)) }
     ensures dead { node.old.live ≢ 1 → (result ≡ 2) × (node.new.live ≡ 0) }
     ensures live { node.old.live ≡ 1 → node.new.live ≡ 1 }
     ensures named { result ≡ 5 → found.new.named ≡ 1 }
@@ -120,6 +134,9 @@ pub extern "C" fn voumlis_proved_node_rewrite(
     node: &mut Handle,
     found: &mut Found,
 ) -> u32
+    ensures shortened { IfSome (held_by node.old) (λ old.
+        (new : Kept) × (ended : Result (Option ℕ) NodeFault) × (held_by node.new ≡ Some new) × ⟦<Promised as Promises>⟧.shortened old ended new
+        × (result ≡ status_number (rewrite_status ended)) × Names found.new.named found.new.place (rewrite_place ended)) }
     ensures dead { node.old.live ≢ 1 → (result ≡ 2) × (node.new.live ≡ 0) }
     ensures live { node.old.live ≡ 1 → node.new.live ≡ 1 }
     ensures unnamed { result ≢ 0 → result ≢ 2 → found.new.named ≡ 0 }
@@ -138,8 +155,10 @@ pub extern "C" fn voumlis_proved_node_requests(
     room: &mut [u8],
     found: &mut Found,
 ) -> u32
+    ensures held { held_by node.new ≡ held_by node.old }
     ensures dead { node.old.live ≢ 1 → (result ≡ 2) × (node.new.live ≡ 0) }
     ensures live { node.old.live ≡ 1 → node.new.live ≡ 1 }
+    ensures fits { result ≡ 0 → found.new.length ≤ length room.old }
     ensures unwritten { result ≢ 0 → room.new ≡ room.old }
     ensures unnamed { result ≢ 2 → found.new.named ≡ 0 }
     ensures statuses { result ≤ 3 }
@@ -157,6 +176,15 @@ pub extern "C" fn voumlis_proved_node_replies(
     room: &mut [u8],
     found: &mut Found,
 ) -> u32
+    ensures taken { IfSome (held_by node.old) (λ old.
+        result ≡ 0
+        → (left : Kept) × (held_by node.new ≡ Some left) × (length (replies_of old) ≤ length room.old)
+        × (take (length (replies_of old)) room.new ≡ replies_of old) × (node_of left ≡ node_of old) × (replies_of left ≡ [])) }
+    ensures no_room { IfSome (held_by node.old) (λ old.
+        result ≢ 0
+        → (left : Kept) × (held_by node.new ≡ Some left) × (length room.old < length (replies_of old)) × (node_of left ≡ node_of old)
+        × (replies_of left ≡ replies_of old)) }
+    ensures length { IfSome (held_by node.old) (λ old. found.new.length ≡ length (replies_of old)) }
     ensures dead { node.old.live ≢ 1 → (result ≡ 2) × (node.new.live ≡ 0) }
     ensures live { node.old.live ≡ 1 → node.new.live ≡ 1 }
     ensures unwritten { result ≢ 0 → room.new ≡ room.old }
@@ -173,6 +201,8 @@ pub extern "C" fn voumlis_proved_node_views(
     node: &mut Handle,
     views: &mut Views,
 ) -> u32
+    ensures held { held_by node.new ≡ held_by node.old }
+    ensures views { IfSome (held_by node.old) (λ state. ⟦<Promised as Promises>⟧.is_in state views.new.current views.new.finalized) }
     ensures dead { node.old.live ≢ 1 → (result ≡ 2) × (node.new.live ≡ 0) × (views.new ≡ views.old) }
     ensures live { node.old.live ≡ 1 → (result ≡ 0) × (node.new.live ≡ 1) }
 {
@@ -182,6 +212,7 @@ pub extern "C" fn voumlis_proved_node_views(
 /// Lets a node go. Answers 0, or 2 where none is open.
 #[unsafe(no_mangle)]
 pub extern "C" fn voumlis_proved_node_close(alloc: Global, node: &mut Handle) -> u32
+    ensures held { held_by node.new ≡ None }
     ensures live { node.old.live ≡ 1 → result ≡ 0 }
     ensures dead { node.old.live ≢ 1 → result ≡ 2 }
     ensures left { node.new.live ≡ 0 }

@@ -172,6 +172,7 @@ fn conduct_of(numbers: &SettingsNumbers) -> Option<Conduct>
         repair,
         repair_window: numbers.repair_window,
         track_historical_votes,
+        rewrite_views: 0,
     })
 }
 

@@ -1,16 +1,18 @@
 //! A member's node that is set up by its settings.
 
-ghost use Rattle.std.specs.Prelude.{◌≡◌, ◌≢◌, ◌⊎◌, ◌≤◌, false};
+ghost use Rattle.std.specs.Prelude.{◌≡◌, ◌≢◌, ◌⊎◌, ◌≤◌, None, Some, false};
 ghost use Rattle.journal_look.specs.Look.{BeginsLikeOne};
 ghost use Rattle.cli_settings.specs.declared.setting.Settings.{Settings as Setting};
+ghost use Rattle.cli_hosted.specs.Held.{held_by};
 ghost use Rattle.cli_hosted.specs.Pairs.{AreLookedAtBy, AreTornBy, BeginsAsNone};
 ghost use Rattle.cli_hosted.specs.Serving.{IsLookedAtBy, IsTornBy, asks};
 ghost use Rattle.cli_hosted.specs.Statuses.{status_number};
+ghost use Rattle.cli_hosted.specs.declared.session.Session.{Session as Kept};
 ghost use Rattle.cli_hosted.specs.declared.status.Status.TheVariants.{Argument, Device, Done, Foreign, Memory, NoRecord, Refused, Settings as Faulty, Torn, Version};
 ghost use Rattle.simplex_c.specs.Settings.{HasFault, HasForm, SaysGood, SaysNothing};
 
 use crate::settings::{SettingsNumbers, settings_of, tell_unfit};
-use cli_hosted::{Found, Handle, Status, opened_by, opened_pair_by};
+use cli_hosted::{Found, Handle, Promised, Promises, Status, opened_by, opened_pair_by};
 use std::alloc::Global;
 
 /// Whether a node can be opened with these settings.
@@ -51,6 +53,9 @@ fn opened(
     node: &mut Handle,
     found: &mut Found,
 ) -> Status
+    ensures begun { result ≡ Done
+        → (s : Setting) × SaysGood numbers.now base.now seed.now s
+        × ((state : Kept) × (held_by node.new ≡ Some state) × ⟦<Promised as Promises>⟧.begun_by s stored.now None state) }
     ensures opened { result ≡ Done → node.new.live ≡ 1 }
     ensures unopened { result ≢ Done → node.new ≡ node.old }
     ensures looked { result ≡ Done → (s : Setting) × SaysGood numbers.now base.now seed.now s × IsLookedAtBy s cuts stored.now }
@@ -82,6 +87,9 @@ fn opened_both(
     node: &mut Handle,
     found: &mut Found,
 ) -> Status
+    ensures begun { result ≡ Done
+        → (s : Setting) × SaysGood numbers.now base.now seed.now s
+        × ((state : Kept) × (held_by node.new ≡ Some state) × ⟦<Promised as Promises>⟧.begun_by s stored.now (Some second.now) state) }
     ensures opened { result ≡ Done → node.new.live ≡ 1 }
     ensures unopened { result ≢ Done → node.new ≡ node.old }
     ensures looked { result ≡ Done → (s : Setting) × SaysGood numbers.now base.now seed.now s × AreLookedAtBy s cuts stored.now second.now }
@@ -139,6 +147,9 @@ pub extern "C" fn voumlis_proved_node_open_with(
     found: &mut Found,
 ) -> u32
     ensures occupied { node.old.live ≢ 0 → result ≡ 2 }
+    ensures begun { result ≡ 0
+        → (s : Setting) × SaysGood numbers.now base.now seed.now s
+        × ((state : Kept) × (held_by node.new ≡ Some state) × ⟦<Promised as Promises>⟧.begun_by s stored.now None state) }
     ensures opened { result ≡ 0 → node.new.live ≡ 1 }
     ensures unopened { result ≢ 0 → node.new ≡ node.old }
     ensures looked { result ≡ 0
@@ -175,6 +186,9 @@ pub extern "C" fn voumlis_proved_node_open_pair_with(
     found: &mut Found,
 ) -> u32
     ensures occupied { node.old.live ≢ 0 → result ≡ 2 }
+    ensures begun { result ≡ 0
+        → (s : Setting) × SaysGood numbers.now base.now seed.now s
+        × ((state : Kept) × (held_by node.new ≡ Some state) × ⟦<Promised as Promises>⟧.begun_by s stored.now (Some second.now) state) }
     ensures opened { result ≡ 0 → node.new.live ≡ 1 }
     ensures unopened { result ≢ 0 → node.new ≡ node.old }
     ensures looked { result ≡ 0

@@ -1,11 +1,13 @@
 -- What a program tells of its streams, by what a run over them does.
 use Rattle.std.proofs.Common.{◌≡◌, ◌≢◌, ◌⊎◌, inl, inr, ℕ, refl, sym, ap, ◌∙◌, subst}
-use Rattle.std.specs.Prelude.{Result, Ok, Err, false, true}
+use Rattle.std.specs.Prelude.{Result, Ok, Err, IfErr, false, true}
 use Rattle.journal_single.specs.Disk.{counted}
 use Rattle.simplex_member.specs.declared.fault.IoFault.{IoFault}
 use Rattle.simplex_member.specs.declared.fault.IoFault.TheVariants as fault
+use Rattle.simplex_member.specs.declared.fault.NodeFault.{NodeFault}
 use Rattle.simplex_cli.specs.declared.ending.Ending.{Ending}
 use Rattle.simplex_cli.specs.declared.ending.Ending.TheVariants as ending
+use Rattle.simplex_cli.specs.Ending.{ending_of}
 use Rattle.simplex_cli.specs.Serving.{AreTold, EndsAs, ended_of}
 
 module _ {A : Type 0} where
@@ -73,3 +75,35 @@ module _ {A : Type 0} where
     write = λ any. ap failed same;
     flushed = λ any before. subst Flushed (sym same) before;
   }
+
+-- why a run broke off, whatever it would have come to
+same_why : {A B : Type 0} (why other : IoFault) → ◌≡◌ {A = Result A IoFault} (Err why) (Err other) → ◌≡◌ {A = Result B IoFault} (Err why) (Err other)
+same_why why other is = let same : why ≡ other = cc in ap (λ (x : IoFault). Err x) same
+
+-- what a run that broke off does with its streams is told so, whatever it would have come to
+pub told_broken : {A B : Type 0} (why : IoFault) (read_before read_now written_before written_now : ℕ) (Was Is : Type 0)
+    → (◌≢◌ {A = Result B IoFault} (Err why) (Err fault.Read) → read_now ≡ read_before) → (◌≡◌ {A = Result B IoFault} (Err why) (Err fault.Write) → written_now ≡ counted false written_before)
+    → (◌≢◌ {A = Result B IoFault} (Err why) (Err fault.Write) → written_now ≡ written_before) → (◌≢◌ {A = Result B IoFault} (Err why) (Err fault.Write) → Was → Is)
+    → AreTold {A = A} (Err (ending_of why)) read_before read_now written_before written_now Was Is
+told_broken {A} {B} why read_before read_now written_before written_now Was Is read failed written flushed =
+    told_of {A = A} (Err why) read_before read_now written_before written_now Was Is (λ other. read (λ is. other (same_why why fault.Read is))) (λ is. failed (same_why why fault.Write is))
+    (λ other. written (λ is. other (same_why why fault.Write is))) (λ other. flushed (λ is. other (same_why why fault.Write is)))
+
+-- a run that came to no fault broke off for none
+pub none_broke : {A : Type 0} (done : A) (why : IoFault) → ◌≢◌ {A = Result A IoFault} (Ok done) (Err why)
+none_broke done why = λ bad. absurd cc
+
+-- what failed no write
+pub steps_alone : {A : Type 0} (ended : Result A Ending) → IfErr ended (λ why. (cause : NodeFault) × (why ≡ ending.Step cause)) → ended ≢ Err ending.Write
+steps_alone (Ok done) told = λ bad. absurd cc
+steps_alone (Err why) (cause, is) = λ bad. absurd cc
+
+-- where nothing failed of the streams that is told too
+pub told_fine : {A : Type 0} (ended : Result A Ending) (read_before read_now written_before written_now : ℕ) (Was Is : Type 0) → ended ≢ Err ending.Write
+    → read_now ≡ read_before → written_now ≡ written_before → (Was → Is) → AreTold ended read_before read_now written_before written_now Was Is
+told_fine ended read_before read_now written_before written_now Was Is other read written flushed = record {
+  read = λ any. read;
+  write_failed = λ is. absurd (other is);
+  write = λ any. written;
+  flushed = λ any. flushed;
+}

@@ -1,3 +1,4 @@
 pub mod Ending
 pub mod Serving
+pub mod Rewriting
 pub mod Settings

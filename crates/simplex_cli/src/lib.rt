@@ -3,6 +3,7 @@
 
 mod ending;
 mod over;
+mod rewriting;
 mod serving;
 mod settings;
 mod telling;
@@ -12,6 +13,7 @@ pub use cli_audit::{
 };
 pub use ending::Ending;
 pub use over::{drive, node_over};
+pub use rewriting::serve_rewriting;
 pub use serving::serve_over;
 pub use settings::{config, elector, scheme};
 pub use telling::tell;

@@ -7,11 +7,13 @@ ghost use Rattle.simplex_member.specs.declared.fault.IoFault.{IoFault};
 ghost use Rattle.simplex_member.specs.declared.fault.NodeFault.{NodeFault};
 ghost use Rattle.simplex_member.specs.declared.fault.OpenFault.{OpenFault};
 ghost use Rattle.simplex_member.specs.Member.{NoneDue};
+ghost use Rattle.simplex_member.specs.Point.{History};
 ghost use Rattle.simplex_member.specs.Setup.{brought_by, setup_of};
 ghost use Rattle.node_core.specs.Rewriting.{IsLeftByRewrite};
-ghost use Rattle.node_steps.specs.Keeps.{AtOwn, disks_of, has_failed};
+ghost use Rattle.node_steps.specs.Keeps.{AtOwn, NodeKeeps, disks_of, has_failed};
 ghost use Rattle.node_steps.specs.Opening.{IsUnopened};
 ghost use Rattle.simplex_cli.specs.declared.ending.Ending.TheVariants.{Open, Step};
+ghost use Rattle.simplex_cli.specs.Rewriting.{MayBeRewritten};
 ghost use Rattle.simplex_cli.specs.Serving.{AreTold, EndsAs, ServesOn, ServesOver};
 ghost use Rattle.node_wire.specs.Streaming.{spelled};
 
@@ -112,10 +114,14 @@ fn finish<S: Scheme<D> + Drop, L: Elector<S, D>, D: Digest, K: Disk>(
 }
 
 /// Rewrites the record, where it stands on two disks.
-fn shorten<S: Scheme<D> + Drop, L: Elector<S, D>, D: Digest, K: Disk>(
+pub(crate) fn shorten<S: Scheme<D> + Drop, L: Elector<S, D>, D: Digest, K: Disk>(
     node: &mut Node<S, L, D, K>,
 ) -> Result<(), Ending>
     ensures fault { IfErr result (λ why. (fault : NodeFault) × (why ≡ Step fault)) }
+    ensures rewritten { OnOk result (AtOwn S.Scheme L.Elector K.Disk ⟦<S as Speaks<D>>⟧.formats node.old (λ f s h.
+        NoneDue S.Scheme f s h
+        → (end : History S D S.PublicKey S.Signature S.Certificate) × MayBeRewritten S.Scheme f s h end
+        × NodeKeeps S.Scheme L.Elector K.Disk f s node.new end)) }
     ensures over_one { has_failed node.old ≡ false
         → are_two (disks_of node.old) ≡ false
         → (is_ok result ≡ true) × (node.new ≡ node.old) }

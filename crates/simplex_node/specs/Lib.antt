@@ -1,3 +1,4 @@
 pub mod Living
 pub mod Running
+pub mod Pausing
 pub mod Stepping

@@ -4,6 +4,7 @@
 
 mod living;
 mod opening_io;
+mod pausing;
 mod running;
 mod stepping;
 mod streaming;
@@ -14,15 +15,15 @@ pub use node_steps::{
     MOST_OPTIMISTIC, Node, Owner, accountability, agreement, first_refused, headline,
 };
 pub use node_wire::{
-    Answers, CountedReader, CountedWriter, EventInput, Sink, Source, StreamFault, read_event,
-    write_event, write_out, write_reply,
+    Answers, CountedReader, CountedWriter, EventInput, Sink, Source, StreamFault, Stretch,
+    read_event, write_event, write_out, write_reply,
 };
 pub use opening_io::{open_disks_io, open_io};
 pub use running::run;
 pub use simplex_member::{
     Action, Channel, Event, IoFault, NodeFault, OpenFault, Refusal, Reply, SetupFault,
 };
-pub use streaming::run_io;
+pub use streaming::{run_io, run_some_io};
 pub use voter_rules::config::{
     Config, ConfigFault, ForwardPolicy, SkipBudget, SkipPolicy, check_config,
 };

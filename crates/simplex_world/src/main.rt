@@ -14,6 +14,7 @@
 //! | `lie MEMBER WAY ..` | `silent`, `two-votes`, `two-proposals`, `two-faced`, `forged`, `withheld`, `asking`, `stale` |
 //! | `crash MEMBER VIEW CALLS DOWN` | in that view, behind so many calls of its disk, for so long |
 //! | `down MEMBER FROM UNTIL` | this member is dead then, as one that was killed |
+//! | `join MEMBER FROM` | this member joins then, and starts from what is final by then |
 //! | `reopen T` | a correct member's node that enters no view for so long is closed and opened again |
 //! | `rewrite VIEWS` | each member's record is rewritten behind so many views that became final, over two disks |
 //! | `format text` or `json`, `lines all`, `some` or `none` | what is written |

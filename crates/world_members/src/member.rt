@@ -1,6 +1,6 @@
 //! A member of a world.
 
-ghost use Rattle.std.specs.Prelude.{◌≡◌, None, Some};
+ghost use Rattle.std.specs.Prelude.{◌≡◌, ◌↔◌, None, Some, IsTrue};
 
 use crate::liar::Liar;
 use crate::patience::{Patience, earlier, has_come};
@@ -58,6 +58,8 @@ pub struct Member<S: Committee, M: Seat<S>> {
     down: u64,
     /// The times to come in which it is dead, the next one last.
     downs: Vec<Down>,
+    /// Whether it joins late.
+    joins: bool,
     /// How long its host waits for a view.
     patience: Patience,
 }
@@ -92,15 +94,17 @@ impl<S: Committee, M: Seat<S>> Member<S, M> {
             crashes: Vec::new(alloc),
             down: 0,
             downs: Vec::new(alloc),
+            joins: false,
             patience: Patience::new(None),
         }
     }
 
-    /// Sets up how it lies, when it crashes or is dead, how long its host waits, and when that rewrites the record.
+    /// Sets up how it lies, when it crashes or is dead, whether it joins late, how long its host waits, and when that rewrites the record.
     fn set_up(&mut self, alloc: Global, scenario: &Scenario) -> Result<(), Broken> {
         self.patience = Patience::new(scenario.reopen);
         self.upkeep = Upkeep::new(scenario.rewrite);
         self.downs = downs_of(alloc, scenario, self.index)?;
+        self.joins = scenario.joins_late(self.index);
         self.crashes = crashes_of(alloc, scenario, self.index)?;
         self.liar = liar_of(alloc, scenario, self.index)?;
         Ok(())
@@ -128,6 +132,13 @@ impl<S: Committee, M: Seat<S>> Member<S, M> {
             Some(liar) => liar.is_silent(),
             None => false,
         }
+    }
+
+    /// Whether it joins late and wasn't opened yet: before it is, it gets what to start from.
+    pub fn is_joining(&self) -> bool
+        ensures { IsTrue result ↔ (IsTrue self.now.joins × (self.now.life ≡ 0)) }
+    {
+        self.joins && self.life == 0
     }
 
     /// A further life of it begins.

@@ -4,6 +4,7 @@ use simplex_member::{Action, Event, Reply};
 use std::alloc::{AllocError, AllocFailed, Global};
 use test_words::Committee;
 use types_core::Sha256Digest;
+use voter_rules::Floor;
 use world_network::{Broken, Fuse, Scenario};
 
 /// Why a seat has no answer.
@@ -35,6 +36,9 @@ impl<T: Drop> From<AllocFailed<T>> for Halt {
 pub trait Seat<S: Committee>: Drop {
     /// A member that is down, with an empty disk under this fuse; or with two under it, where records are rewritten.
     fn new(alloc: Global, scenario: &Scenario, index: u32, fuse: Fuse) -> Result<Self, Broken>;
+
+    /// From now on each opening brings this in the place of genesis.
+    fn start_from(&mut self, floor: Floor<S, Sha256Digest>);
 
     /// Opens its record, where it is down: what is to be done.
     fn open(&mut self, now: u64) -> Result<Vec<Action<S, Sha256Digest>>, Halt>;

@@ -1,6 +1,6 @@
 //! How the nodes of a world are set up.
 
-ghost use Rattle.std.specs.Prelude.{◌<◌};
+ghost use Rattle.std.specs.Prelude.{◌≡◌, ◌<◌};
 
 use types_core::{Epoch, TermLength, ViewDelta};
 use types_terms::elector::RoundRobin;
@@ -30,7 +30,9 @@ fn length_of(times: &Times) -> u32
 }
 
 /// How each node is set up that starts from this.
-pub fn config_of<F>(times: &Times, floor: F) -> Config<F> {
+pub fn config_of<F>(times: &Times, floor: F) -> Config<F>
+    ensures { result.floor ≡ floor }
+{
     Config {
         epoch: Epoch::zero(),
         floor,

@@ -1,6 +1,7 @@
 //! What is to happen: the lines of a scenario.
 
-ghost use Rattle.std.specs.Prelude.{◌≡◌, ◌≤◌, ◌<◌, Err, IfOk, is_ok, true};
+ghost use Rattle.std.specs.Prelude.{◌≡◌, ◌≤◌, ◌<◌, ◌==◌, Err, IfOk, is_ok, true};
+ghost use Rattle.std.specs.List.{list_any};
 ghost use Rattle.world_network.specs.declared.refusal.Refusal.TheVariants.{NotLater, StillDown};
 
 use crate::refusal::Refusal;
@@ -192,6 +193,8 @@ pub struct Scenario {
     pub cuts: Vec<Cut>,
     /// The times in which members are dead: those of one in their order, none of which begins before the one before has ended.
     pub downs: Vec<Down>,
+    /// The members that join late: they are away before the first of their times in `downs` is over, and then start from what is final.
+    pub joins: Vec<u32>,
     /// For how many milliseconds a correct member may enter no view before its host closes the node and opens it again, if it does.
     pub reopen: Option<u64>,
     /// Behind how many views that became final a member's host rewrites its record, if it does. Then records stand on two disks.
@@ -221,6 +224,7 @@ impl Scenario {
             crashes: Vec::new(alloc),
             cuts: Vec::new(alloc),
             downs: Vec::new(alloc),
+            joins: Vec::new(alloc),
             reopen: None,
             rewrite: None,
             json,
@@ -241,6 +245,13 @@ impl Scenario {
     /// Whether this member lies.
     pub fn lies(&self, member: u32) -> bool {
         self.ways(member).lies()
+    }
+
+    /// Whether this member joins late.
+    pub fn joins_late(&self, member: u32) -> bool
+        ensures { result ≡ list_any (λ join. join == member) self.now.joins.items }
+    {
+        self.joins.contains(&member)
     }
 
     /// Whether a packet between the two is lost at this moment for a cut.
@@ -329,6 +340,7 @@ impl Scenario {
             "lie" => return self.add_liar(words),
             "crash" => return self.add_crash(words),
             "down" => return self.add_down(words),
+            "join" => return self.add_join(words),
             "reopen" => self.reopen = Some(above_zero(words)?),
             "rewrite" => self.rewrite = Some(above_zero(words)?),
             _ => return Err(Refusal::UnknownLine),
@@ -408,6 +420,16 @@ impl Scenario {
         let until = number_of(words)?;
         let down = down_of(member, from, until, self.is_down_until(member))?;
         self.downs.push(down)?;
+        Ok(())
+    }
+
+    /// `join MEMBER FROM`.
+    fn add_join(&mut self, words: &mut Words<'_>) -> Result<(), Refusal> {
+        let member = self.member(words)?;
+        let from = above_zero(words)?;
+        let away = down_of(member, 0, from, self.is_down_until(member))?;
+        self.downs.push(away)?;
+        self.joins.push(member)?;
         Ok(())
     }
 

@@ -229,6 +229,7 @@ impl<S: Committee, M: Seat<S>> World<S, M> {
             return Ok(());
         }
         self.reports.add(activity)?;
+        self.latest.take(activity)?;
         if self.chronicle.tells_all() {
             self.tell_report(me, activity)?;
         }

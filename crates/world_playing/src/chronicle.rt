@@ -2,7 +2,8 @@
 
 use std::alloc::{AllocError, Global};
 use std::io::Write;
-use types_core::{Proposal, Sha256Digest, Viewable, faults};
+use types_core::{Proposal, Scheme, Sha256Digest, Viewable, faults};
+use voter_rules::Floor;
 use world_members::Upkeep;
 use world_network::{Broken, Ground, Scenario, Teller, Ways, number_of};
 
@@ -145,12 +146,37 @@ impl Chronicle {
         self.teller.end()
     }
 
-    /// A member is dead from now on, and is opened again at that moment.
-    pub fn tell_down(&mut self, member: u32, until: u64) -> Result<(), AllocError> {
+    /// A member is dead from now on, or hasn't joined yet, and is opened at that moment.
+    pub fn tell_down(
+        &mut self,
+        member: u32,
+        until: u64,
+        is_joining: bool,
+    ) -> Result<(), AllocError> {
         if !self.teller.tells_some() {
             return Ok(());
         }
-        self.tell_number(member, "down", "until", until)
+        let event = if is_joining { "away" } else { "down" };
+        self.tell_number(member, event, "until", until)
+    }
+
+    /// A member joins, and starts from this at each opening: the finalization of a view, or genesis.
+    pub fn tell_joined<S: Scheme<Sha256Digest>>(
+        &mut self,
+        member: u32,
+        floor: &Floor<S, Sha256Digest>,
+    ) -> Result<(), AllocError> {
+        if !self.teller.tells_some() {
+            return Ok(());
+        }
+        let payload = match floor {
+            Floor::Genesis(payload) => number_of(payload),
+            Floor::Finalized(it) => number_of(&it.proposal.payload),
+        };
+        self.begin(member, "joined")?;
+        self.teller.number("view", floor.view().get())?;
+        self.teller.number_or("payload", payload)?;
+        self.teller.end()
     }
 
     /// A member's host closed its node, which stood in this view, and had entered none for so long.

@@ -8,6 +8,7 @@ mod chronicle;
 mod ending;
 mod findings;
 mod hearing;
+mod latest;
 mod playing;
 mod reporting;
 mod reports;

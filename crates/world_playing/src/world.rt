@@ -1,6 +1,7 @@
 //! The world of a scenario: its members, what is under way, and what comes next.
 
 use crate::chronicle::Chronicle;
+use crate::latest::Latest;
 use crate::reports::Reports;
 use simplex_member::{Action, Event, Reply};
 use simplex_messages::Activity;
@@ -37,6 +38,8 @@ pub(crate) struct World<S: Committee, M: Seat<S>> {
     pub(crate) chain: Chain,
     /// The reports of all correct members.
     pub(crate) reports: Reports,
+    /// What members that join late start from.
+    pub(crate) latest: Latest<S>,
     /// The lines, and the moment.
     pub(crate) chronicle: Chronicle,
     pub(crate) chance: Chance,
@@ -61,6 +64,7 @@ impl<S: Committee, M: Seat<S>> World<S, M> {
             payloads: Payloads::new(alloc),
             chain: Chain::new(alloc),
             reports: Reports::new(alloc),
+            latest: Latest::new(alloc),
             chronicle,
             chance: Chance::seeded(seed.wrapping_add(1_000_003)),
             is_opening: false,
@@ -221,7 +225,8 @@ impl<S: Committee, M: Seat<S>> World<S, M> {
     fn kill(&mut self, place: usize) -> Result<(), Broken> {
         if let Some(member) = self.members.get_mut(place) {
             let until = member.kill();
-            self.chronicle.tell_down(member.index, until)?;
+            self.chronicle
+                .tell_down(member.index, until, member.is_joining())?;
         }
         Ok(())
     }
@@ -244,6 +249,11 @@ impl<S: Committee, M: Seat<S>> World<S, M> {
         };
         if member.is_silent() {
             return Ok(());
+        }
+        if member.is_joining() {
+            let floor = self.latest.floor()?;
+            self.chronicle.tell_joined(member.index, &floor)?;
+            member.seat.start_from(floor);
         }
         member.begin_life(now);
         match member.seat.open(now) {

@@ -1,18 +1,19 @@
 //! A member's node, whatever its scheme, whoever leads, and on whatever disk: at one of each the calls would cost the prover several
 //! times as much.
 
-ghost use Rattle.std.specs.Prelude.{◌≡◌};
+ghost use Rattle.std.specs.Prelude.{◌≡◌, IfOk};
 
 use crate::medium::Medium;
 use crate::turns::Turns;
 use journal_books::Disks;
 use node_steps::Node;
 use simplex_member::{Action, Event, NodeFault, OpenFault, Reply};
-use std::alloc::Global;
+use std::alloc::{AllocError, Global};
 use std::rc::Rc;
 use test_words::Committee;
-use types_core::Sha256Digest;
+use types_core::{Duplicate, Sha256Digest};
 use voter_rules::Floor;
+use voter_rules::config::Config;
 use world_members::{Halt, Seat, config_of, member_of};
 use world_network::{Broken, Fuse, Scenario, Times, genesis};
 
@@ -26,6 +27,8 @@ pub struct Keeper<S: Committee, L: Turns<S>, K: Medium> {
     members: u32,
     index: u32,
     times: Times,
+    /// What each opening brings.
+    floor: Floor<S, Sha256Digest>,
     disks: Option<Disks<K>>,
     node: Option<Node<S, L, Sha256Digest, K>>,
 }
@@ -46,10 +49,11 @@ impl<S: Committee, L: Turns<S>, K: Medium> Keeper<S, L, K> {
     ) -> Result<Vec<Action<S, Sha256Digest>>, Halt>
         requires { L.built_for elector (S.size scheme.value) }
     {
+        let config = self.config()?;
         let Some(disks) = self.disks.take() else {
             return Err(Halt::Idle);
         };
-        match self.open_over(scheme, elector, disks, now) {
+        match open_over(self.alloc, config, scheme, elector, disks, now) {
             Ok((node, actions)) => {
                 self.node = Some(node);
                 Ok(actions)
@@ -61,31 +65,12 @@ impl<S: Committee, L: Turns<S>, K: Medium> Keeper<S, L, K> {
         }
     }
 
-    /// The node over these disks and its first actions, or the disks behind an opening that failed.
-    fn open_over(
-        &self,
-        scheme: Rc<S>,
-        elector: L,
-        disks: Disks<K>,
-        now: u64,
-    ) -> Result<(Node<S, L, Sha256Digest, K>, Vec<Action<S, Sha256Digest>>), (OpenFault, Disks<K>)>
-        requires { L.built_for elector (S.size scheme.value) }
+    /// How the node is set up: at each opening it brings what the member starts from.
+    fn config(&self) -> Result<Config<Floor<S, Sha256Digest>>, AllocError>
+        ensures { IfOk result (λ config. config.floor ≡ self.now.floor) }
     {
-        let config = config_of(&self.times, Floor::Genesis(genesis()));
-        match disks {
-            Disks::One(disk) => {
-                match Node::open(self.alloc, config, scheme, elector, disk, now) {
-                    Ok(opened) => Ok(opened),
-                    Err((fault, disk)) => Err((fault, Disks::One(disk))),
-                }
-            }
-            Disks::Two(first, second) => {
-                match Node::open_pair(self.alloc, config, scheme, elector, first, second, now) {
-                    Ok(opened) => Ok(opened),
-                    Err((fault, first, second)) => Err((fault, Disks::Two(first, second))),
-                }
-            }
-        }
+        let floor = self.floor.duplicate(self.alloc)?;
+        Ok(config_of(&self.times, floor))
     }
 
     /// Closes the node, if it is open.
@@ -105,9 +90,14 @@ impl<S: Committee, L: Turns<S>, K: Medium> Seat<S> for Keeper<S, L, K> {
             members: scenario.members,
             index,
             times: scenario.times,
+            floor: Floor::Genesis(genesis()),
             disks: Some(disks_of(alloc, scenario, fuse, seed)?),
             node: None,
         })
+    }
+
+    fn start_from(&mut self, floor: Floor<S, Sha256Digest>) {
+        self.floor = floor;
     }
 
     fn open(&mut self, now: u64) -> Result<Vec<Action<S, Sha256Digest>>, Halt> {
@@ -165,6 +155,31 @@ impl<S: Committee, L: Turns<S>, K: Medium> Seat<S> for Keeper<S, L, K> {
         match &self.node {
             Some(node) => node.last_finalized().get(),
             None => 0,
+        }
+    }
+}
+
+/// The node over these disks and its first actions, or the disks behind an opening that failed.
+fn open_over<S: Committee, L: Turns<S>, K: Medium>(
+    alloc: Global,
+    config: Config<Floor<S, Sha256Digest>>,
+    scheme: Rc<S>,
+    elector: L,
+    disks: Disks<K>,
+    now: u64,
+) -> Result<(Node<S, L, Sha256Digest, K>, Vec<Action<S, Sha256Digest>>), (OpenFault, Disks<K>)>
+    requires { L.built_for elector (S.size scheme.value) }
+{
+    match disks {
+        Disks::One(disk) => match Node::open(alloc, config, scheme, elector, disk, now) {
+            Ok(opened) => Ok(opened),
+            Err((fault, disk)) => Err((fault, Disks::One(disk))),
+        },
+        Disks::Two(first, second) => {
+            match Node::open_pair(alloc, config, scheme, elector, first, second, now) {
+                Ok(opened) => Ok(opened),
+                Err((fault, first, second)) => Err((fault, Disks::Two(first, second))),
+            }
         }
     }
 }

@@ -2,6 +2,6 @@ use Rattle.std.proofs.Common.{ap, arith, sym}
 use Rattle.node_wire.specs.Over.{ends_where}
 use Rattle.cli_hosted.proofs.session.go_on.Goals as goal
 
-pub returns : goal.returns
-returns g c = λ s h keeps.
+pub returns-clause-answered : goal.returns-clause-answered
+returns-clause-answered g c = λ s h keeps.
     ends_where _ _ _ _ _ _ _ _ (λ failed. omega arith) _ _ _ _ (rw (ap (λ w. w.inner) c.new-output.ensures, c.replace.ensures.value, sym c.into_inner.ensures) at (c.run_io-ended.ensures.answers s h keeps))

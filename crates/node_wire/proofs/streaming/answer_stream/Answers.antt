@@ -1,65 +1,30 @@
-use Rattle.std.proofs.Common.{ℕ, refl, sym, ap, ◌∙◌, subst, inl}
-use Rattle.std.specs.Prelude.{Err, false}
-use Rattle.journal_single.specs.Disk.{counted}
+use Rattle.std.proofs.Common.{◌≡◌, [], ap, ◌∙◌, true}
+use Rattle.std.specs.Prelude.{Err, Ok, false, ⊤}
 use Rattle.std.proofs.KnownBytes.{prepend_known-nil}
 use Rattle.node_wire.specs.Stream.{left_of}
-use Rattle.node_wire.specs.Stepper.{AnswersNone}
+use Rattle.node_wire.specs.Stepper.{Answer, AnswerBefore}
 use Rattle.node_wire.specs.Streaming.{spelled}
-use Rattle.node_wire.proofs.Streamed.{ends_all, ends_given_up, ends_unanswered, ends_unread, goes_none, goes_one, none_touched, none_went}
+use Rattle.node_wire.specs.OverAmid.{stands_first}
+use Rattle.node_wire.proofs.Streamed.{ends_first, never_stops}
 use Rattle.node_wire.proofs.streaming.answer_stream.Goals as goal
 
-pub loop-alloc-init : goal.loop-alloc-init
-loop-alloc-init g c = record {
-  so_far = goes_none g.T.Stepper.steps g.D.Write.fits g.D.Write.spelling (spelled g.S.PublicKey.Write.spelling g.D.Write.spelling g.S.Signature.Write.spelling g.S.Certificate.Write.spelling)
-      (g.R.Source.remaining c.args.reader.now) (left_of c.new-input.result (g.R.Source.remaining c.args.reader.now)) c.new-input.result (g.W.Sink.contents c.args.writer.now) c.args.node.now
-      (ap (λ i. left_of i (g.R.Source.remaining c.args.reader.now)) c.new-input.ensures ∙ prepend_known-nil (g.R.Source.remaining c.args.reader.now)) (ap (λ i. i.place) c.new-input.ensures) (ap (λ i. i.taken) c.new-input.ensures);
-  still = λ none. (refl, refl);
-  read = refl;
-  written = refl;
-  flushed = λ before. before;
-}
+-- it never pauses
+pub returns-in-Ok-clause-answers : goal.returns-in-Ok-clause-answers
+returns-in-Ok-clause-answers g c =
+    never_stops g.D.Write.fits g.D.Write.spelling (spelled g.S.PublicKey.Write.spelling g.D.Write.spelling g.S.Signature.Write.spelling g.S.Certificate.Write.spelling) (g.D.Read.reading 65535)
+    (Answer g.T.Stepper.steps c.args.node.now c.answer_some.new.node) (AnswerBefore g.T.Stepper.steps c.args.node.now c.answer_some.new.node) ⊥ {A = ⊤} tt _ (g.R.Source.remaining c.args.reader.now) _ _ (g.W.Sink.contents c.args.writer.now) (g.W.Sink.contents c.answer_some.new.writer)
+    (λ is. absurd (let bad : true ≡ false = c.in-Ok.ensures.paused (ap Ok is) in cc))
+    (c.in-Ok.ensures.answers (g.R.Source.remaining c.args.reader.now) (g.W.Sink.contents c.args.writer.now) [] []
+    (stands_first g.D.Write.fits g.D.Write.spelling (spelled g.S.PublicKey.Write.spelling g.D.Write.spelling g.S.Signature.Write.spelling g.S.Certificate.Write.spelling)
+    (g.R.Source.remaining c.args.reader.now) (left_of c.new-input.result (g.R.Source.remaining c.args.reader.now)) c.new-input.result (g.W.Sink.contents c.args.writer.now)
+    (ap (λ i. left_of i (g.R.Source.remaining c.args.reader.now)) c.new-input.ensures ∙ prepend_known-nil (g.R.Source.remaining c.args.reader.now)) (ap (λ i. i.place) c.new-input.ensures) (ap (λ i. i.taken) c.new-input.ensures)))
 
-pub loop-alloc-preserved : goal.loop-alloc-preserved
-loop-alloc-preserved g c =
-    let took = rw c.in-Some.is at c.in-Ok.ensures.event in
-    record {
-      so_far = goes_one g.T.Stepper.steps g.D.Write.fits g.D.Write.spelling (spelled g.S.PublicKey.Write.spelling g.D.Write.spelling g.S.Signature.Write.spelling g.S.Certificate.Write.spelling)
-          c.args.node.now c.loop-alloc.node c.answer.new.node (g.R.Source.remaining c.args.reader.now) (left_of c.loop-alloc.input (g.R.Source.remaining c.loop-alloc.reader)) (left_of c.next_event.new.self (g.R.Source.remaining c.next_event.new.reader)) c.loop-alloc.input c.next_event.new.self
-          (g.W.Sink.contents c.args.writer.now) (g.W.Sink.contents c.loop-alloc.writer) (g.W.Sink.contents c.answer.new.writer) c.in-Some.event c.loop-alloc.invariant.so_far took c.in-Ok-answer.ensures.answers;
-      still = λ none.
-          let still = c.loop-alloc.invariant.still none in
-          let (reply, step, written) = c.in-Ok-answer.ensures.answers in
-          absurd (none_went g.T.Stepper.steps c.args.node.now c.loop-alloc.node c.answer.new.node c.in-Some.event reply none still.0 step);
-      read = c.next_event.ensures.not_failed (λ bad. absurd cc) ∙ c.loop-alloc.invariant.read;
-      written = c.answer.ensures.not_failed (λ bad. absurd cc) ∙ c.loop-alloc.invariant.written;
-      flushed = λ before. c.answer.ensures.flushed (λ bad. absurd cc) (c.loop-alloc.invariant.flushed before);
-    }
-
-pub returns-in-Err-clause-answers : goal.returns-in-Err-clause-answers
-returns-in-Err-clause-answers g c =
-    ends_unread g.T.Stepper.steps g.D.Write.fits g.D.Write.spelling (spelled g.S.PublicKey.Write.spelling g.D.Write.spelling g.S.Signature.Write.spelling g.S.Certificate.Write.spelling) (g.D.Read.reading 65535) ℕ
-    c.args.node.now c.loop-alloc.node (g.R.Source.remaining c.args.reader.now) (left_of c.loop-alloc.input (g.R.Source.remaining c.loop-alloc.reader)) c.loop-alloc.input (g.W.Sink.contents c.args.writer.now) (g.W.Sink.contents c.loop-alloc.writer) c.in-Err.fault _ _
-    (λ is. is ∙ ap (counted false) c.loop-alloc.invariant.read) (c.is_spent.ensures.unspent (cc)) c.loop-alloc.invariant.so_far c.in-Err.ensures.fault
-
-pub returns-in-Err-answer-clause-answers : goal.returns-in-Err-answer-clause-answers
-returns-in-Err-answer-clause-answers g c =
-    let took = rw c.in-Some.is at c.in-Ok.ensures.event in
-    ends_unanswered g.T.Stepper.steps g.D.Write.fits g.D.Write.spelling (spelled g.S.PublicKey.Write.spelling g.D.Write.spelling g.S.Signature.Write.spelling g.S.Certificate.Write.spelling) (g.D.Read.reading 65535) ℕ ℕ _
-    c.args.node.now c.loop-alloc.node c.answer.new.node (g.R.Source.remaining c.args.reader.now) (left_of c.loop-alloc.input (g.R.Source.remaining c.loop-alloc.reader)) (left_of c.next_event.new.self (g.R.Source.remaining c.next_event.new.reader)) c.loop-alloc.input c.next_event.new.self
-    (g.W.Sink.contents c.args.writer.now) (g.W.Sink.contents c.loop-alloc.writer) (g.W.Sink.contents c.answer.new.writer) c.in-Some.event c.in-Err-answer.fault c.loop-alloc.invariant.so_far took c.in-Err-answer.ensures.answers
-
-pub returns-in_default-clause-answers : goal.returns-in_default-clause-answers
-returns-in_default-clause-answers g c =
-    ends_all g.T.Stepper.steps g.D.Write.fits g.D.Write.spelling (spelled g.S.PublicKey.Write.spelling g.D.Write.spelling g.S.Signature.Write.spelling g.S.Certificate.Write.spelling) (g.D.Read.reading 65535)
-    c.args.node.now c.loop-alloc.node (g.R.Source.remaining c.args.reader.now) (left_of c.loop-alloc.input (g.R.Source.remaining c.loop-alloc.reader)) c.loop-alloc.input (g.W.Sink.contents c.args.writer.now) (g.W.Sink.contents c.loop-alloc.writer) (c.is_spent.ensures.unspent (cc)) c.loop-alloc.invariant.so_far (rw c.in_default.is at c.in-Ok.ensures.end)
-
+-- as it ended
 pub returns-clause-answers : goal.returns-clause-answers
 returns-clause-answers g c =
-    ends_given_up g.T.Stepper.steps g.D.Write.fits g.D.Write.spelling (spelled g.S.PublicKey.Write.spelling g.D.Write.spelling g.S.Signature.Write.spelling g.S.Certificate.Write.spelling)
-    c.args.node.now c.loop-alloc.node (g.R.Source.remaining c.args.reader.now) (left_of c.loop-alloc.input (g.R.Source.remaining c.loop-alloc.reader)) c.loop-alloc.input (g.W.Sink.contents c.args.writer.now) (g.W.Sink.contents c.loop-alloc.writer) ⊥ _ (λ no. absurd no) c.loop-alloc.invariant.so_far (inl (c.is_spent.ensures.spent (cc)))
-
-pub returns-in-Err-answer-clause-untouched : goal.returns-in-Err-answer-clause-untouched
-returns-in-Err-answer-clause-untouched g c = λ none.
-    let still = c.loop-alloc.invariant.still none in
-    none_touched g.T.Stepper.steps ℕ _ (spelled g.S.PublicKey.Write.spelling g.D.Write.spelling g.S.Signature.Write.spelling g.S.Certificate.Write.spelling) c.loop-alloc.node c.answer.new.node c.in-Some.event c.in-Err-answer.fault
-    (g.W.Sink.contents c.loop-alloc.writer) (g.W.Sink.contents c.answer.new.writer) c.args.writer.now c.answer.new.writer (subst (AnswersNone g.T.Stepper.steps) (sym still.0) none) c.in-Err-answer.ensures.answers (λ n is. c.in-Err-answer.ensures.untouched n (ap Err is) ∙ still.1)
+    ends_first g.D.Write.fits g.D.Write.spelling (spelled g.S.PublicKey.Write.spelling g.D.Write.spelling g.S.Signature.Write.spelling g.S.Certificate.Write.spelling) (g.D.Read.reading 65535)
+    (Answer g.T.Stepper.steps c.args.node.now c.answer_some.new.node) (AnswerBefore g.T.Stepper.steps c.args.node.now c.answer_some.new.node) _ {A = ⊤} (Err c.in-Err.fault) (g.R.Source.remaining c.args.reader.now) (g.W.Sink.contents c.args.writer.now) (g.W.Sink.contents c.answer_some.new.writer)
+    (c.in-Err.ensures.answers (g.R.Source.remaining c.args.reader.now) (g.W.Sink.contents c.args.writer.now) [] []
+    (stands_first g.D.Write.fits g.D.Write.spelling (spelled g.S.PublicKey.Write.spelling g.D.Write.spelling g.S.Signature.Write.spelling g.S.Certificate.Write.spelling)
+    (g.R.Source.remaining c.args.reader.now) (left_of c.new-input.result (g.R.Source.remaining c.args.reader.now)) c.new-input.result (g.W.Sink.contents c.args.writer.now)
+    (ap (λ i. left_of i (g.R.Source.remaining c.args.reader.now)) c.new-input.ensures ∙ prepend_known-nil (g.R.Source.remaining c.args.reader.now)) (ap (λ i. i.place) c.new-input.ensures) (ap (λ i. i.taken) c.new-input.ensures)))

@@ -3,6 +3,9 @@ use Rattle.simplex_c.proofs.Unfit.{fault_by, form_by, named_but_fault, named_of,
 use Rattle.simplex_c.proofs.with_settings.opened.Goals as goal
 
 -- an opening by these settings
+pub returns-in-Ok-clause-begun : goal.returns-in-Ok-clause-begun
+returns-in-Ok-clause-begun c = λ is. (c.in-Ok.settings, (c.in-Ok.ensures.form, c.in-Ok.ensures.said, c.in-Ok.ensures.good), c.opened_by.ensures.begun is)
+
 pub returns-in-Ok-clause-looked : goal.returns-in-Ok-clause-looked
 returns-in-Ok-clause-looked c = λ is. (c.in-Ok.settings, (c.in-Ok.ensures.form, c.in-Ok.ensures.said, c.in-Ok.ensures.good), c.opened_by.ensures.looked is)
 
@@ -22,6 +25,9 @@ pub returns-in-Ok-clause-unnamed : goal.returns-in-Ok-clause-unnamed
 returns-in-Ok-clause-unnamed c = unnamed_but_form c.opened_by.result c.opened_by.new.found.named c.opened_by.ensures.bound c.opened_by.ensures.unnamed
 
 -- none, for what the settings are
+pub returns-in-Err-clause-begun : goal.returns-in-Err-clause-begun
+returns-in-Err-clause-begun c = λ is. absurd (never_done c.in-Err.why (sym c.tell_unfit.ensures.status ∙ is))
+
 pub returns-in-Err-clause-opened : goal.returns-in-Err-clause-opened
 returns-in-Err-clause-opened c = λ is. absurd (never_done c.in-Err.why (sym c.tell_unfit.ensures.status ∙ is))
 

@@ -2,6 +2,9 @@ use Rattle.std.proofs.Common.{◌∙◌, sym}
 use Rattle.simplex_c.proofs.Numbers.{done_by, not_asked, torn_by}
 use Rattle.simplex_c.proofs.with_settings.voumlis_proved_node_open_with.Goals as goal
 
+pub returns-clause-begun : goal.returns-clause-begun
+returns-clause-begun c = λ is. c.opened.ensures.begun (done_by c.opened.result (sym c.number-2.ensures ∙ is))
+
 pub returns-clause-looked : goal.returns-clause-looked
 returns-clause-looked c = λ is. c.opened.ensures.looked (done_by c.opened.result (sym c.number-2.ensures ∙ is))
 

@@ -1,13 +1,14 @@
 -- `shown` moves what a place owns back behind the box's pointer.
-use Rattle.std.proofs.Common.{◌≡◌, List, [], ◌∷◌, ◌++◌, refl, sym, subst}
+use Rattle.std.proofs.Common.{◌≡◌, List, [], ◌∷◌, ◌++◌, Some, refl, sym, subst}
+use Rattle.std.specs.Prelude.{IsSome}
 use mir.Val.{Val, vptr}
-use base.Logic.{SProp, ent, id⊢}
+use base.Logic.{SProp, ent, emp, id⊢}
 use prog.Wp.{WpFn}
-use types.Kit.{‵, raw, ◌⊛◌, ◌$◌, ◌∵◌, !, qed, by, move, keep, split, fsplit, fjoin, suffices}
+use types.Kit.{‵, raw, ◌⊛◌, ◌$◌, ◌∵◌, !, qed, by, move, keep, split, fsplit, fjoin, suffices, use0}
 use types.Run.{stop, fld, of_opd, no_more, and_then, returns, enter}
 use types.ByLocal.{alloc_all, pass_all, free_all, look_at, get, get_in, sets}
 use types.Part.{agg, sub, whole}
-use contract.Monad.{fact}
+use contract.Monad.{fact, fact_i}
 use contract.Running.{tables}
 use denote.Exit.{yes}
 use denote.RattleType.{owns}
@@ -21,6 +22,7 @@ use Rattle.std.proofs.raw_atomic.Walks.{proved_at, leaves}
 use Rattle.std.proofs.alloc.Global.TheLaws as heap_laws
 use Rattle.std.specs.contracts.impls.GlobalAllocator.TheImpl as heap_impl
 use Rattle.cli_hosted.proofs.Values.{both, loose_good, loose_in}
+use Rattle.cli_hosted.proofs.Kept.{value_of}
 use Rattle.cli_hosted.proofs.Places.{Place, R, Z, place_out}
 use Rattle.cli_hosted.specs.contracts.place.Place.shown.{ended, clauses}
 use Rattle.cli_hosted.specs.contracts.place.Place.shown.Key.{name as #self}
@@ -33,8 +35,8 @@ shown_spec 𝓤 𝓛 𝓜 𝓡 wired =
     let hs : Stays En.signature.params En.kept = (stay_dropped (plain (λ _. Place)) yes, tt) in
     proved_at 𝓛 En hs c 𝓜 𝓡 (Goes-blank 𝓛 0 (plain (λ _. Place)) yes (λ κs x f. tt), tt) #self fn (code.unfolded 𝓤 H 𝓜 𝓡 wired) (λ z are.
     let κs = z.0.0 in let qs = z.0.1 in let v = z.0.3.0 in let Post : Val → SProp 𝓤 = (walk_of 𝓛 En hs c).post z in let Run : List Val → SProp 𝓤 = λ ws. WpFn 𝓤 H 𝓣.C 𝓣.Λ fn ws Post in
-    qed 𝓛 ((raw (alive 𝓛 En.signature κs qs) ⊛ ‵ (owns (types_at En.signature.params κs) z.0.3 z.0.4)) ∷ raw (fact 𝓤 (v.full ≡ 1)) ∷ []) ∵ move ! (1 ∷ []) $ heard ! (v.full ≡ 1) (λ is_full. split ! $ move ! (1 ∷ []) $ fsplit ! $
-    place_out ! v z.0.4.0 is_full (λ b o h e ws fits.
+    qed 𝓛 ((raw (alive 𝓛 En.signature κs qs) ⊛ ‵ (owns (types_at En.signature.params κs) z.0.3 z.0.4)) ∷ raw (fact 𝓤 (IsSome v.held)) ∷ []) ∵ move ! (1 ∷ []) $ heard ! (IsSome v.held) (λ full. let x = value_of v.held full in split ! $ move ! (1 ∷ []) $ fsplit ! $
+    place_out ! v z.0.4.0 x.0 x.1 (λ b o h e ws fits.
     let w : Val = both (vptr b o) h in let typed = loose_good R Z heap_laws.the_row_laws heap_impl.ghosts b o h fits in
     suffices ! (Run (w ∷ [])) (subst (λ (us : List Val). ent 𝓤 (Run (w ∷ [])) (Run us)) (sym (λ i. ws i ++ [])) (id⊢ 𝓤 (Run (w ∷ [])))) $
     enter ! 𝓣.C 𝓣.Λ fn (w ∷ []) Post $ alloc_all ! (λ l. pass_all ! refl (typed, tt) $
@@ -42,6 +44,6 @@ shown_spec 𝓤 𝓛 𝓜 𝓡 wired =
     sets ! (of_opd ! (get_in ! (fld ! refl (stop !)) (sub ! 1 refl (whole !)))) refl fits $
     sets ! (of_opd ! (get ! refl)) refl (tt, tt) $
     sets ! (agg ! (and_then ! (get ! refl) (and_then ! (get ! refl) (no_more !)))) refl typed $
-    loose_in R Z heap_laws.the_row_laws heap_impl.ghosts ! b o h v.alloc tt $
-    nothing ! $ nothing ! $ nothing ! $ fjoin ! $
-    returns ! (look_at ! 0 refl) $ free_all ! refl $ keep ! (4 ∷ 0 ∷ 2 ∷ 1 ∷ []) $ by ! (leaves 𝓛 En hs c z w (record { at = block_ptr b o; alloc = v.alloc; value = tt }) (_, tt) (tt, tt))))))
+    loose_in R Z heap_laws.the_row_laws heap_impl.ghosts ! b o h v.alloc x.0 $
+    use0 𝓛 (raw (fact 𝓤 (v.held ≡ Some x.0))) (fact_i 𝓤 (v.held ≡ Some x.0) (emp 𝓤) x.1) $ nothing ! $ nothing ! $ fjoin ! $
+    returns ! (look_at ! 0 refl) $ free_all ! refl $ keep ! (4 ∷ 0 ∷ 2 ∷ 1 ∷ []) $ by ! (leaves 𝓛 En hs c z w (record { at = block_ptr b o; alloc = v.alloc; value = x.0 }) (_, tt) (tt, tt))))))

@@ -1,0 +1,3 @@
+pub mod HostedDisk
+pub mod Requests
+pub mod Told
