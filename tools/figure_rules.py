@@ -321,6 +321,7 @@ RULES = [
     *exact("docs/TESTING.md", rows_of_testing()),
     Rule("docs/TESTING.md", r"each of (\d+) calls of a lone member", lambda _: int(found("crates/run_node/stdin", r"(?m)^# of (\d+) calls none fails$"))),
     Rule("docs/TESTING.md", r"plays (\w+) scenarios .*? and (\w+) that `tools/run-worlds` made", lambda _: (scenarios(), scenarios("lines none"))),
+    Rule("docs/WORLD.md", r"the gate's (\w+) scenarios", lambda _: scenarios()),
     # trials, by their log
     Rule(TRIALS, r"\| In (\d+) seeds \|", lambda _: len(trials())),
     Rule(TRIALS, r"\*\*(\w+) seeds of ten minutes", lambda _: len(trials())),

@@ -1,8 +1,5 @@
-use Rattle.std.proofs.Common.{◌∙◌, ap}
-use Rattle.cli_hosted.specs.Statuses.{status_number}
-use Rattle.simplex_c.proofs.Holding.{if_held}
+use Rattle.simplex_c.proofs.Holding.{told_by}
 use Rattle.simplex_c.proofs.node.voumlis_proved_node_rewrite.Goals as goal
 
 pub returns-clause-shortened : goal.returns-clause-shortened
-returns-clause-shortened c =
-    if_held _ _ _ c.rewritten.ensures.shortened (λ old said. (said.0, said.1, said.2, said.3, c.number.ensures ∙ ap status_number said.4, said.5))
+returns-clause-shortened c = told_by _ _ c.number.ensures _ _ _ _ _ c.rewritten.ensures.shortened
