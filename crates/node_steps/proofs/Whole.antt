@@ -40,7 +40,7 @@ module _ {S L D P G C K : Type 0} (g : Ghosts S D P G C) (e : elector.Ghosts L S
     end = begun.end;
     opens = begun.opens;
     keeps = subst (λ (n : Node S L D K P G C). NodeKeeps g e k f s n begun.end) (sym is) (record {
-      running = refl;
+      running = keeps.runs;
       core = record {
         begun = begun.begun;
         allowed = begun.allowed;
