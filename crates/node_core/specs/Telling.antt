@@ -34,7 +34,7 @@ module _ {M K : Type 0} {k : disk.Ghosts K} where
     no_device = tt;
     no_fault = not_failed_then k (disks_of old) (disks_of mid) (disks_of new) one.no_fault other.no_fault;
     failed = λ is. absurd (cc is);
-    stays_open = λ open. other.stays_open (one.stays_open open);
+    stays_open = λ runs. other.stays_open (one.stays_open runs);
   }
   tells_both old mid new x (Err why) one other = record {
     device = λ is. failed_then k (disks_of old) (disks_of mid) (disks_of new) one.no_fault (other.device is);

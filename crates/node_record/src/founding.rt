@@ -121,7 +121,7 @@ impl<S: Scheme<D>, D: Digest, K: Disk> Ledger<S, D, K> {
     ) -> Result<Self, (OpenFault, Disks<K>)>
         requires sound { (fault : FloorFault) → ¬ AppliesToFinal (S.certifies scheme.now) owner.term_length owner.epoch floor.now fault }
         requires few { S.size scheme.now ≤ 65535 }
-        requires open { has_failed (book_of self) ≡ false }
+        requires running { has_failed (book_of self) ≡ false }
         ensures holds { IfOk result (λ ledger.
             (xs : List (Artifact S D S.PublicKey S.Signature S.Certificate))
             → KeepsRecord K.Disk (artifact_spelling D.spelling S.Signature.spelling S.Certificate.spelling) owner self xs
@@ -185,7 +185,7 @@ impl<S: Scheme<D>, D: Digest, K: Disk> Ledger<S, D, K> {
         floor: &Finalization<S, D>,
     ) -> Result<(), OpenFault>
         requires few { members ≤ 65535 }
-        requires open { has_failed (book_of self.old) ≡ false }
+        requires running { has_failed (book_of self.old) ≡ false }
         ensures keeps { OnOk result ((owner : Owner) (xs : List (Artifact S D S.PublicKey S.Signature S.Certificate))
             → KeepsRecord K.Disk (artifact_spelling D.spelling S.Signature.spelling S.Certificate.spelling) owner self.old xs
             → MayFollow owner.term_length (entries xs) (entry (artifact.Finalization floor.now))

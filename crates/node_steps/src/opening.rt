@@ -252,7 +252,7 @@ fn begin<S: Scheme<D> + Drop, L: Elector<S, D>, D: Digest, K: Disk>(
     node: Node<S, L, D, K>,
     actions: Vec<Action<S, D>>,
 ) -> Result<(Node<S, L, D, K>, Vec<Action<S, D>>), (OpenFault, Disks<K>)>
-    requires open { has_failed (book_of node) ≡ false }
+    requires running { has_failed (book_of node) ≡ false }
     ensures opened { IfOk result (λ r.
         (n : ℕ) (s : Setup S D S.Certificate) (brought : Option (Finalization S D S.PublicKey S.Signature S.Certificate)) (on : Disks K) (now : ℕ)
         → n ≡ S.size s.voter.scheme

@@ -18,7 +18,7 @@ returns-in-Ok-clause-any_moment g c = λ n s brought on now size open_is keeps o
 
 -- the journal that was opened hasn't failed
 pub not_begun-requires : goal.not_begun-requires
-not_begun-requires g c = λ is. let before = c.in-Err.ensures.faults.failed (ap Err is) in absurd (cc (before, c.requires.open))
+not_begun-requires g c = λ is. let before = c.in-Err.ensures.faults.failed (ap Err is) in absurd (cc (before, c.requires.running))
 
 -- where what was due was not done, the disk is given back as it was left
 pub returns-in-Err-clause-memory : goal.returns-in-Err-clause-memory

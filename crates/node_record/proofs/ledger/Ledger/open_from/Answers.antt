@@ -90,5 +90,5 @@ pub found-requires-clause-sound : goal.found-requires-clause-sound
 found-requires-clause-sound g c = λ fault. rw c.in-Finalized.is at (c.requires.sound fault)
 
 -- and it is the first call of a journal that was just opened
-pub found-requires-clause-open : goal.found-requires-clause-open
-found-requires-clause-open g c = c.in-Ok.ensures.opened.keeps.runs
+pub found-requires-clause-running : goal.found-requires-clause-running
+found-requires-clause-running g c = c.in-Ok.ensures.opened.keeps.runs
