@@ -1,6 +1,6 @@
 -- Own votes: what one point of the node's own comes to, when an own vote may come next, and where the node stands behind it.
 use Rattle.std.proofs.Common.{◌≡◌, ◌≢◌, ◌≤◌, ◌<◌, ◌-◌, ◌⊎◌, ⊎_elim, ℕ, Bool, true, false, List, [], ◌∷◌, ◌++◌, Option, Some, None, Result, Ok, Err, refl, sym, ◌∙◌, ap, subst, append-nil, arith, map}
-use Rattle.std.specs.Prelude.{◌==◌, nat_lt, All, Contains, IfErr, IfOk, IsErrOf, IsSome, OnOk, if◌then◌else◌}
+use Rattle.std.specs.Prelude.{◌==◌, nat_lt, All, Contains, IfOk, IsSome, OnOk, if◌then◌else◌}
 use Rattle.std.specs.Option.{option_or}
 use Rattle.std.proofs.lemmas.Bool.{eq-eqb, false≢true, lt-ltb}
 use Rattle.std.proofs.lemmas.List.Elements.{All-cons, All-nil, All-weaker}
@@ -44,8 +44,7 @@ use Rattle.node_votes.specs.KeepsVotes as accepting
 use Rattle.node_votes.specs.KeepsVotes.{IsOpenTo, QuietStays}
 use Rattle.journal_single.specs.declared.disk.Disk as disk
 use Rattle.journal_books.specs.declared.books.Books.{Books}
-use Rattle.journal_books.specs.declared.disks.Disks.{Disks}
-use Rattle.journal_books.specs.Books.{HasFailed, HasNotFailed, LeaveBook}
+use Rattle.journal_books.specs.Books.{LeaveBook}
 use Rattle.journal_books.specs.BooksLaws.{book_weaker}
 use Rattle.node_record.specs.declared.ledger.Ledger.{Ledger}
 use Rattle.node_record.specs.Ledger.{KeepsRecord}
@@ -53,7 +52,6 @@ use Rattle.node_record.specs.Recorded.{IsLastNullifyOf}
 use Rattle.node_record.specs.Tables.{KeepsTables}
 use Rattle.simplex_member.specs.declared.action.Action.{Action}
 use Rattle.simplex_member.specs.declared.fault.NodeFault.{NodeFault}
-use Rattle.simplex_member.specs.declared.fault.NodeFault.TheVariants as step_fault
 use Rattle.simplex_member.specs.Allowed.{Allowed, AreAllowed, RetryIsKnown, VoteIsDue}
 use Rattle.simplex_member.specs.Deeds.{Deed, Reports, Sends, all_deeds, deeds_of}
 use Rattle.simplex_member.specs.Floors.{IsOfViews, TellsAll}

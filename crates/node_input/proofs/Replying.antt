@@ -10,7 +10,6 @@ use Rattle.types_terms.specs.declared.elector.Elector as elector
 use Rattle.journal_single.specs.declared.disk.Disk as disk
 use Rattle.messages_certificates.specs.declared.artifact.Artifact.{Artifact}
 use Rattle.journal_books.specs.declared.books.Books.{Books}
-use Rattle.journal_books.specs.declared.disks.Disks.{Disks}
 use Rattle.journal_books.specs.Books as words
 use Rattle.journal_books.specs.Books.{LeaveBook}
 use Rattle.journal_books.specs.BooksLaws.{book_weaker, same_not_failed}

@@ -1,5 +1,5 @@
 -- A node that is opened, of its parts.
-use Rattle.std.proofs.Common.{◌≡◌, ◌<◌, ◌≤◌, ◌^◌, inl, inr, ⊎_elim, ◌++◌, ◌∙◌, ℕ, false, List, refl, sym, ap, subst, arith}
+use Rattle.std.proofs.Common.{◌≡◌, ◌<◌, ◌≤◌, ◌^◌, inl, inr, ⊎_elim, ◌++◌, ◌∙◌, ℕ, false, List, sym, ap, subst, arith}
 use Rattle.std.specs.Prelude.{Option, map}
 use Rattle.types_core.specs.declared.scheme.Scheme.{Ghosts}
 use Rattle.types_core.specs.Subject.{Statement}
