@@ -1,4 +1,4 @@
-use Rattle.std.proofs.Common.{◌++◌, ◌∷◌, [], inl, refl, sym, subst, arith}
+use Rattle.std.proofs.Common.{◌++◌, ◌∷◌, [], inl, sym, subst, arith}
 use Rattle.types_codec.specs.Codec.{Readable}
 use Rattle.messages_certificates.specs.Artifact.{artifact_fits, artifact_spelling, artifact_within, artifact_within-weaker}
 use Rattle.messages_certificates.specs.declared.artifact.Artifact.TheVariants as artifact
@@ -25,10 +25,6 @@ pub record-requires : goal.record-requires
 record-requires g c = record {
   within = artifact_within-weaker (λ x within. g.met.S.Certificate.Read.grows c.args.members 65535 x c.requires.few within) (artifact.Finalization c.in-Ok.copy) (c.is_within.ensures.0 (grind (arith, c.if-not-is_within.false)));
 }
-
--- the journal hasn't failed before
-pub unreachable-requires : goal.unreachable-requires
-unreachable-requires g c = let before = c.in-Err-Failed.ensures.failed refl in absurd (cc (before, c.requires.running))
 
 -- it is recorded
 pub returns-in-Ok-record-clause-keeps : goal.returns-in-Ok-record-clause-keeps
