@@ -7,7 +7,7 @@ ghost use Rattle.simplex_member.specs.Recorded.{kept_of, next_floor};
 ghost use Rattle.node_record.specs.Ledger.{next_view};
 ghost use Rattle.node_core.specs.Keeps.{AtOwn, book_of, disks_of};
 ghost use Rattle.node_core.specs.Rewriting.{CoreIsRewritten, IsLeftByRewrite};
-ghost use Rattle.node_core.specs.Telling.{TellsOfDisk};
+ghost use Rattle.node_core.specs.Telling.{TellsOfBook};
 
 use crate::node_state::Core;
 use journal_single::Disk;
@@ -24,7 +24,8 @@ impl<S: Scheme<D> + Drop, L: Elector<S, D>, D: Digest, K: Disk> Core<S, L, D, K>
     ///
     /// # Errors
     ///
-    /// [`NodeFault::Memory`] and [`NodeFault::Device`]. Then the record is the one before, or the rewritten one.
+    /// [`NodeFault::Memory`] and [`NodeFault::Device`]. Then the record is the one before, or the rewritten one. [`NodeFault::Failed`]
+    /// where the journal has failed before.
     #[tactic(auto, using(journal_books::specs::BooksLaws::same_not_failed))]
     pub fn rewrite(&mut self) -> Result<Option<View>, NodeFault>
         ensures view { IfOk result (λ view.
@@ -47,7 +48,7 @@ impl<S: Scheme<D> + Drop, L: Elector<S, D>, D: Digest, K: Disk> Core<S, L, D, K>
             NoneDue S.Scheme f s h
             → K.keeps
             → Leave K.Disk (disks_of self.old) (disks_of self.new) (IsLeftByRewrite S.Scheme f s h)) }
-        ensures faults { TellsOfDisk K.Disk (disks_of self.old) (disks_of self.new) result }
+        ensures faults { TellsOfBook K.Disk (book_of self.old) (book_of self.new) result }
     {
         what_is_kept_stands_for_all::<S, D>();
         rewrites_leave_nothing_due::<S, D>();
@@ -61,9 +62,7 @@ impl<S: Scheme<D> + Drop, L: Elector<S, D>, D: Digest, K: Disk> Core<S, L, D, K>
                 Ok(Some(view))
             }
             Ok(None) => Ok(None),
-            Err(NodeFault::Device) => Err(NodeFault::Device),
-            // A ledger that holds a record hasn't failed (clause `not_failed` of `Ledger::rewrite`).
-            Err(NodeFault::Memory | NodeFault::Failed) => Err(NodeFault::Memory),
+            Err(fault) => Err(fault),
         }
     }
 }

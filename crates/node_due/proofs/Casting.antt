@@ -1,6 +1,6 @@
 -- Own votes: what one point of the node's own comes to, when an own vote may come next, and where the node stands behind it.
 use Rattle.std.proofs.Common.{◌≡◌, ◌≢◌, ◌≤◌, ◌<◌, ◌-◌, ◌⊎◌, ⊎_elim, ℕ, Bool, true, false, List, [], ◌∷◌, ◌++◌, Option, Some, None, Result, Ok, Err, refl, sym, ◌∙◌, ap, subst, append-nil, arith, map}
-use Rattle.std.specs.Prelude.{◌==◌, nat_lt, All, Contains, IfErr, IfOk, IsErrOf, IsSome, OnOk, if◌then◌else◌}
+use Rattle.std.specs.Prelude.{◌==◌, nat_lt, All, Contains, IfOk, IsSome, OnOk, if◌then◌else◌}
 use Rattle.std.specs.Option.{option_or}
 use Rattle.std.proofs.lemmas.Bool.{eq-eqb, false≢true, lt-ltb}
 use Rattle.std.proofs.lemmas.List.Elements.{All-cons, All-nil, All-weaker}
@@ -44,8 +44,7 @@ use Rattle.node_votes.specs.KeepsVotes as accepting
 use Rattle.node_votes.specs.KeepsVotes.{IsOpenTo, QuietStays}
 use Rattle.journal_single.specs.declared.disk.Disk as disk
 use Rattle.journal_books.specs.declared.books.Books.{Books}
-use Rattle.journal_books.specs.declared.disks.Disks.{Disks}
-use Rattle.journal_books.specs.Books.{HasFailed, HasNotFailed, LeaveBook}
+use Rattle.journal_books.specs.Books.{LeaveBook}
 use Rattle.journal_books.specs.BooksLaws.{book_weaker}
 use Rattle.node_record.specs.declared.ledger.Ledger.{Ledger}
 use Rattle.node_record.specs.Ledger.{KeepsRecord}
@@ -53,7 +52,6 @@ use Rattle.node_record.specs.Recorded.{IsLastNullifyOf}
 use Rattle.node_record.specs.Tables.{KeepsTables}
 use Rattle.simplex_member.specs.declared.action.Action.{Action}
 use Rattle.simplex_member.specs.declared.fault.NodeFault.{NodeFault}
-use Rattle.simplex_member.specs.declared.fault.NodeFault.TheVariants as step_fault
 use Rattle.simplex_member.specs.Allowed.{Allowed, AreAllowed, RetryIsKnown, VoteIsDue}
 use Rattle.simplex_member.specs.Deeds.{Deed, Reports, Sends, all_deeds, deeds_of}
 use Rattle.simplex_member.specs.Floors.{IsOfViews, TellsAll}
@@ -76,7 +74,6 @@ use Rattle.node_due.specs.Acting.{ComesTo, HasActed, IsLeftByActs, WasTried}
 use Rattle.node_due.specs.Ahead.{MayCome, VoterIsAhead}
 use Rattle.node_core.specs.Keeps.{CoreKeeps, book_of}
 use Rattle.node_due.specs.NoneDue.{NoNullifyToCast}
-use Rattle.node_core.specs.Telling.{TellsOfDisk}
 use Rattle.node_core.specs.Taking.{IsLeftBy, IsTaken}
 use Rattle.node_core.specs.Standing.{stands_behind}
 
@@ -250,23 +247,6 @@ module _ {S L D P G C K : Type 0} (g : Ghosts S D P G C) (e : elector.Ghosts L S
   -- who asks stands where the node does
   pub asker_stands : (node : Core S L D K P G C) (h : History S D P G C) → CoreKeeps g e k f s node h → AskerKeeps g e f s node.voter node.repair node.tables h
   asker_stands node h keeps = record { begun = keeps.begun; allowed = keeps.allowed; voter_is = keeps.voter; repair_is = keeps.repair; tables_are = keeps.tables }
-
--- ---- disks
-
--- a call that asked something of them once, and failed in it
-pub failed_once : {K A B : Type 0} (k : disk.Ghosts K) (old new : Disks K) (first : Result A NodeFault) (why : NodeFault) → first ≡ Err why → (IsErrOf first step_fault.Device → HasFailed k old new)
-    → IfErr first (λ w. w ≢ step_fault.Device → HasNotFailed k old new) → (¬ IsErrOf first step_fault.Failed) → TellsOfDisk {A = B} k old new (Err why)
-failed_once {K} {A} {B} k old new first why is device other not_failed = record {
-  device = λ at. let same : why ≡ step_fault.Device = cc at in device (subst (λ (w : NodeFault). first ≡ Err w) same is);
-  no_device = subst (λ (r : Result A NodeFault). IfErr r (λ w. w ≢ step_fault.Device → HasNotFailed k old new)) is other;
-  no_fault = tt;
-  not_failed = λ at. let same : why ≡ step_fault.Failed = cc at in not_failed (subst (λ (w : NodeFault). first ≡ Err w) same is);
-}
-
--- one that asked something of them once, which came out well
-pub asked_well : {K A : Type 0} (k : disk.Ghosts K) (old new : Disks K) (answer : Result A NodeFault) → HasNotFailed k old new → IfErr answer (λ why. why ≡ step_fault.Memory) → TellsOfDisk k old new answer
-asked_well k old new (Ok x) same memory = record { device = λ is. absurd (cc is); no_device = tt; no_fault = same; not_failed = λ is. absurd (cc is) }
-asked_well k old new (Err why) same memory = record { device = λ is. absurd (cc (is, memory)); no_device = λ other. same; no_fault = tt; not_failed = λ is. absurd (cc (is, memory)) }
 
 -- ---- a vote
 

@@ -3,9 +3,9 @@
 ghost use Rattle.node_requests.specs.Asking.{is_poll, is_none, is_silent};
 ghost use Rattle.simplex_member.specs.Member.{NoneDue};
 ghost use Rattle.node_due.specs.Acting.{WasSettled, WasTried};
-ghost use Rattle.node_core.specs.Keeps.{AtOwn, disks_of};
+ghost use Rattle.node_core.specs.Keeps.{AtOwn, book_of};
 ghost use Rattle.node_due.specs.NoneDue.{NoVoteToCast, NothingByVotes, NothingMoreToAsk, NothingToAskOnProposals};
-ghost use Rattle.node_core.specs.Telling.{TellsOfDisk};
+ghost use Rattle.node_core.specs.Telling.{TellsOfBook};
 
 use crate::asking::{
     say_when, try_build, try_return, try_silence, try_verdicts, try_verification, try_views,
@@ -35,7 +35,7 @@ pub fn settle<S: Scheme<D> + Drop, L: Elector<S, D>, D: Digest, K: Disk>(
 ) -> Result<(), NodeFault>
     ensures settled { AtOwn S.Scheme L.Elector K.Disk ⟦<S as Speaks<D>>⟧.formats core.old
         (λ f s h. WasSettled S.Scheme L.Elector K.Disk f s core.old core.new h out.old.items out.new.items result) }
-    ensures faults { TellsOfDisk K.Disk (disks_of core.old) (disks_of core.new) result }
+    ensures faults { TellsOfBook K.Disk (book_of core.old) (book_of core.new) result }
 {
     a_ledger_at_rest_leaves_its_record::<S, D, K>();
     acts_end::<S, D>();
@@ -60,7 +60,7 @@ fn act<S: Scheme<D> + Drop, L: Elector<S, D>, D: Digest, K: Disk>(
 ) -> Result<Acted, NodeFault>
     ensures tried { AtOwn S.Scheme L.Elector K.Disk ⟦<S as Speaks<D>>⟧.formats core.old (λ f s h.
         WasTried S.Scheme L.Elector K.Disk f s is_silent (NoneDue S.Scheme f s) core.old core.new h out.old.items out.new.items result) }
-    ensures faults { TellsOfDisk K.Disk (disks_of core.old) (disks_of core.new) result }
+    ensures faults { TellsOfBook K.Disk (book_of core.old) (book_of core.new) result }
 {
     a_latch_changes_nothing_due::<S, D>();
     match ask_on_proposals(core, out) {
@@ -90,7 +90,7 @@ fn ask_on_proposals<S: Scheme<D> + Drop, L: Elector<S, D>, D: Digest, K: Disk>(
     ensures tried { AtOwn S.Scheme L.Elector K.Disk ⟦<S as Speaks<D>>⟧.formats core.old (λ f s h.
         WasTried S.Scheme L.Elector K.Disk f s is_silent (NothingToAskOnProposals S.Scheme f s) core.old core.new h out.old.items
         out.new.items result) }
-    ensures faults { TellsOfDisk K.Disk (disks_of core.old) (disks_of core.new) result }
+    ensures faults { TellsOfBook K.Disk (book_of core.old) (book_of core.new) result }
 {
     a_latch_changes_nothing_due::<S, D>();
     match try_verdicts(core, out) {
@@ -109,7 +109,7 @@ fn go_by_votes<S: Scheme<D> + Drop, L: Elector<S, D>, D: Digest, K: Disk>(
 ) -> Result<Acted, NodeFault>
     ensures tried { AtOwn S.Scheme L.Elector K.Disk ⟦<S as Speaks<D>>⟧.formats core.old (λ f s h.
         WasTried S.Scheme L.Elector K.Disk f s is_none (NothingByVotes S.Scheme f s) core.old core.new h out.old.items out.new.items result) }
-    ensures faults { TellsOfDisk K.Disk (disks_of core.old) (disks_of core.new) result }
+    ensures faults { TellsOfBook K.Disk (book_of core.old) (book_of core.new) result }
 {
     match try_leader(core) {
         Ok(Acted::Nothing) => {}
@@ -133,7 +133,7 @@ fn ask_for_more<S: Scheme<D> + Drop, L: Elector<S, D>, D: Digest, K: Disk>(
     ensures tried { AtOwn S.Scheme L.Elector K.Disk ⟦<S as Speaks<D>>⟧.formats core.old (λ f s h.
         WasTried S.Scheme L.Elector K.Disk f s is_none (NothingMoreToAsk S.Scheme f s) core.old core.new h out.old.items out.new.items
         result) }
-    ensures faults { TellsOfDisk K.Disk (disks_of core.old) (disks_of core.new) result }
+    ensures faults { TellsOfBook K.Disk (book_of core.old) (book_of core.new) result }
 {
     match try_return(core) {
         Ok(Acted::Nothing) => {}
@@ -161,7 +161,7 @@ fn vote<S: Scheme<D> + Drop, L: Elector<S, D>, D: Digest, K: Disk>(
 ) -> Result<Acted, NodeFault>
     ensures tried { AtOwn S.Scheme L.Elector K.Disk ⟦<S as Speaks<D>>⟧.formats core.old (λ f s h.
         WasTried S.Scheme L.Elector K.Disk f s is_poll (NoVoteToCast S.Scheme f s) core.old core.new h out.old.items out.new.items result) }
-    ensures faults { TellsOfDisk K.Disk (disks_of core.old) (disks_of core.new) result }
+    ensures faults { TellsOfBook K.Disk (book_of core.old) (book_of core.new) result }
 {
     a_latch_changes_nothing_due::<S, D>();
     match try_notarize(core, out) {

@@ -6,8 +6,8 @@ ghost use Rattle.node_requests.specs.NoneDue.{NoBuildToAsk, NoBuildToGiveBack, N
 ghost use Rattle.node_requests.specs.Silence.{IsSilenceOf};
 ghost use Rattle.simplex_member.specs.Member.{NoneDue};
 ghost use Rattle.node_due.specs.Acting.{WasSettled, WasTried};
-ghost use Rattle.node_core.specs.Keeps.{AtAll, AtOwn, disks_of};
-ghost use Rattle.node_core.specs.Telling.{TellsOfDisk};
+ghost use Rattle.node_core.specs.Keeps.{AtAll, AtOwn, book_of};
+ghost use Rattle.node_core.specs.Telling.{TellsOfBook};
 
 use journal_single::Disk;
 use node_core::Core;
@@ -35,7 +35,7 @@ pub(crate) fn try_verdicts<S: Scheme<D> + Drop, L: Elector<S, D>, D: Digest, K: 
     ensures tried { AtOwn S.Scheme L.Elector K.Disk ⟦<S as Speaks<D>>⟧.formats core.old (λ f s h.
         WasTried S.Scheme L.Elector K.Disk f s is_put_off (NoVerdictToAsk S.Scheme f s) core.old core.new h out.old.items out.new.items
         result) }
-    ensures faults { TellsOfDisk K.Disk (disks_of core.old) (disks_of core.new) result }
+    ensures faults { TellsOfBook K.Disk (book_of core.old) (book_of core.new) result }
 {
     a_ledger_at_rest_leaves_its_record::<S, D, K>();
     silent_points_leave_votes::<S, D>();
@@ -57,7 +57,7 @@ pub(crate) fn try_verification<S: Scheme<D> + Drop, L: Elector<S, D>, D: Digest,
     ensures tried { AtOwn S.Scheme L.Elector K.Disk ⟦<S as Speaks<D>>⟧.formats core.old (λ f s h.
         WasTried S.Scheme L.Elector K.Disk f s is_latch (NoVerificationToAsk S.Scheme f s) core.old core.new h out.old.items out.new.items
         result) }
-    ensures faults { TellsOfDisk K.Disk (disks_of core.old) (disks_of core.new) result }
+    ensures faults { TellsOfBook K.Disk (book_of core.old) (book_of core.new) result }
 {
     a_ledger_at_rest_leaves_its_record::<S, D, K>();
     silent_points_leave_votes::<S, D>();
@@ -77,7 +77,7 @@ pub(crate) fn try_return<S: Scheme<D> + Drop, L: Elector<S, D>, D: Digest, K: Di
     ensures tried { AtOwn S.Scheme L.Elector K.Disk ⟦<S as Speaks<D>>⟧.formats core.old (λ f s h.
         (actions : List (Action S D S.PublicKey S.Signature S.Certificate))
         → WasTried S.Scheme L.Elector K.Disk f s is_none (NoBuildToGiveBack S.Scheme f s) core.old core.new h actions actions result) }
-    ensures faults { TellsOfDisk K.Disk (disks_of core.old) (disks_of core.new) result }
+    ensures faults { TellsOfBook K.Disk (book_of core.old) (book_of core.new) result }
 {
     a_ledger_at_rest_leaves_its_record::<S, D, K>();
     silent_points_leave_votes::<S, D>();
@@ -96,7 +96,7 @@ pub(crate) fn try_build<S: Scheme<D> + Drop, L: Elector<S, D>, D: Digest, K: Dis
 ) -> Result<Acted, NodeFault>
     ensures tried { AtOwn S.Scheme L.Elector K.Disk ⟦<S as Speaks<D>>⟧.formats core.old (λ f s h.
         WasTried S.Scheme L.Elector K.Disk f s is_none (NoBuildToAsk S.Scheme f s) core.old core.new h out.old.items out.new.items result) }
-    ensures faults { TellsOfDisk K.Disk (disks_of core.old) (disks_of core.new) result }
+    ensures faults { TellsOfBook K.Disk (book_of core.old) (book_of core.new) result }
 {
     a_ledger_at_rest_leaves_its_record::<S, D, K>();
     silent_points_leave_votes::<S, D>();
@@ -115,7 +115,7 @@ pub(crate) fn try_views<S: Scheme<D> + Drop, L: Elector<S, D>, D: Digest, K: Dis
 ) -> Result<Acted, NodeFault>
     ensures tried { AtOwn S.Scheme L.Elector K.Disk ⟦<S as Speaks<D>>⟧.formats core.old (λ f s h.
         WasTried S.Scheme L.Elector K.Disk f s is_none (NoViewToAsk S.Scheme f s) core.old core.new h out.old.items out.new.items result) }
-    ensures faults { TellsOfDisk K.Disk (disks_of core.old) (disks_of core.new) result }
+    ensures faults { TellsOfBook K.Disk (book_of core.old) (book_of core.new) result }
 {
     a_ledger_at_rest_leaves_its_record::<S, D, K>();
     silent_points_leave_votes::<S, D>();
@@ -135,7 +135,7 @@ pub(crate) fn try_silence<S: Scheme<D> + Drop, L: Elector<S, D>, D: Digest, K: D
     ensures tried { AtOwn S.Scheme L.Elector K.Disk ⟦<S as Speaks<D>>⟧.formats core.old (λ f s h.
         (actions : List (Action S D S.PublicKey S.Signature S.Certificate))
         → WasTried S.Scheme L.Elector K.Disk f s is_none (NoSilence S.Scheme f s) core.old core.new h actions actions result) }
-    ensures faults { TellsOfDisk K.Disk (disks_of core.old) (disks_of core.new) result }
+    ensures faults { TellsOfBook K.Disk (book_of core.old) (book_of core.new) result }
 {
     a_ledger_at_rest_leaves_its_record::<S, D, K>();
     silent_points_leave_votes::<S, D>();
@@ -155,7 +155,7 @@ pub(crate) fn say_when<S: Scheme<D> + Drop, L: Elector<S, D>, D: Digest, K: Disk
 ) -> Result<(), NodeFault>
     ensures settled { AtOwn S.Scheme L.Elector K.Disk ⟦<S as Speaks<D>>⟧.formats core.old
         (λ f s h. NoneDue S.Scheme f s h → WasSettled S.Scheme L.Elector K.Disk f s core.old core.new h out.old.items out.new.items result) }
-    ensures faults { TellsOfDisk K.Disk (disks_of core.old) (disks_of core.new) result }
+    ensures faults { TellsOfBook K.Disk (book_of core.old) (book_of core.new) result }
 {
     a_ledger_at_rest_leaves_its_record::<S, D, K>();
     let silence = silence(core);

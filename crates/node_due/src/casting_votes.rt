@@ -21,9 +21,9 @@ ghost use Rattle.simplex_member.specs.Setup.{Setup};
 ghost use Rattle.node_outbox.specs.Handing.{AddsDeeds};
 ghost use Rattle.node_due.specs.Acting.{WasTried};
 ghost use Rattle.node_due.specs.Ahead.{MayCome, VoterIsAhead};
-ghost use Rattle.node_core.specs.Keeps.{AtOwn, book_of, disks_of};
+ghost use Rattle.node_core.specs.Keeps.{AtOwn, book_of};
 ghost use Rattle.node_due.specs.NoneDue.{NoFinalizeToCast, NoNotarizeToCast, NoNullifyToCast};
-ghost use Rattle.node_core.specs.Telling.{TellsOfDisk};
+ghost use Rattle.node_core.specs.Telling.{TellsOfBook};
 ghost use Rattle.node_core.specs.Taking.{IsLeftBy, IsTaken};
 
 use journal_single::Disk;
@@ -58,7 +58,7 @@ pub(crate) fn try_notarize<S: Scheme<D> + Drop, L: Elector<S, D>, D: Digest, K: 
 ) -> Result<Acted, NodeFault>
     ensures tried { AtOwn S.Scheme L.Elector K.Disk ⟦<S as Speaks<D>>⟧.formats core.old (λ f s h.
         WasTried S.Scheme L.Elector K.Disk f s is_none (NoNotarizeToCast s) core.old core.new h out.old.items out.new.items result) }
-    ensures faults { TellsOfDisk K.Disk (disks_of core.old) (disks_of core.new) result }
+    ensures faults { TellsOfBook K.Disk (book_of core.old) (book_of core.new) result }
 {
     proposals_lie_in_their_views::<S, D>();
     due_may_be_recorded::<S, D>();
@@ -85,7 +85,7 @@ pub(crate) fn try_finalize<S: Scheme<D> + Drop, L: Elector<S, D>, D: Digest, K: 
 ) -> Result<Acted, NodeFault>
     ensures tried { AtOwn S.Scheme L.Elector K.Disk ⟦<S as Speaks<D>>⟧.formats core.old (λ f s h.
         WasTried S.Scheme L.Elector K.Disk f s is_none (NoFinalizeToCast s) core.old core.new h out.old.items out.new.items result) }
-    ensures faults { TellsOfDisk K.Disk (disks_of core.old) (disks_of core.new) result }
+    ensures faults { TellsOfBook K.Disk (book_of core.old) (book_of core.new) result }
 {
     proposals_lie_in_their_views::<S, D>();
     due_may_be_recorded::<S, D>();
@@ -111,7 +111,7 @@ pub(crate) fn try_nullify<S: Scheme<D> + Drop, L: Elector<S, D>, D: Digest, K: D
 ) -> Result<Acted, NodeFault>
     ensures tried { AtOwn S.Scheme L.Elector K.Disk ⟦<S as Speaks<D>>⟧.formats core.old (λ f s h.
         WasTried S.Scheme L.Elector K.Disk f s is_poll (NoNullifyToCast S.Scheme f s) core.old core.new h out.old.items out.new.items result) }
-    ensures faults { TellsOfDisk K.Disk (disks_of core.old) (disks_of core.new) result }
+    ensures faults { TellsOfBook K.Disk (book_of core.old) (book_of core.new) result }
 {
     voters_are_orderly::<S, D>();
     a_ledger_at_rest_leaves_its_record::<S, D, K>();
@@ -134,7 +134,7 @@ fn give_up<S: Scheme<D> + Drop, L: Elector<S, D>, D: Digest, K: Disk>(
         → RetryIsKnown S.Scheme f s h
         → WasTried S.Scheme L.Elector K.Disk f s is_none (NoNullifyToCast S.Scheme f s) core.old core.new h out.old.items out.new.items
         result) }
-    ensures faults { TellsOfDisk K.Disk (disks_of core.old) (disks_of core.new) result }
+    ensures faults { TellsOfBook K.Disk (book_of core.old) (book_of core.new) result }
 {
     due_may_be_recorded::<S, D>();
     a_ledger_at_rest_leaves_its_record::<S, D, K>();
@@ -167,7 +167,7 @@ fn repeat_nullify<S: Scheme<D> + Drop, L: Elector<S, D>, D: Digest, K: Disk>(
         → RetryIsKnown S.Scheme f s h
         → WasTried S.Scheme L.Elector K.Disk f s is_none (NoNullifyToCast S.Scheme f s) core.old core.new h out.old.items out.new.items
         result) }
-    ensures faults { TellsOfDisk K.Disk (disks_of core.old) (disks_of core.new) result }
+    ensures faults { TellsOfBook K.Disk (book_of core.old) (book_of core.new) result }
 {
     known_nullifies_are_recorded::<S, D>();
     what_is_kept_stands_for_all::<S, D>();
@@ -215,7 +215,7 @@ fn cast<S: Scheme<D> + Drop, L: Elector<S, D>, D: Digest, K: Disk>(
         → MayCome S.Scheme f s (IsRecordable f) h (Votes vote)
         → K.keeps
         → LeaveBook K.Disk (book_of core.old) (book_of core.new) (IsLeftBy S.Scheme f s h (Votes vote)) }
-    ensures faults { TellsOfDisk K.Disk (disks_of core.old) (disks_of core.new) result }
+    ensures faults { TellsOfBook K.Disk (book_of core.old) (book_of core.new) result }
 {
     a_ledger_at_rest_leaves_its_record::<S, D, K>();
     quiet_points_leave_the_tables::<S, D>();

@@ -17,10 +17,10 @@ ghost use Rattle.simplex_member.specs.Point.{History, Constructs, Forwards};
 ghost use Rattle.simplex_member.specs.Setup.{Setup};
 ghost use Rattle.node_due.specs.Acting.{WasTried};
 ghost use Rattle.node_due.specs.Ahead.{MayCome, VotesAreAhead, VotesGoAhead};
-ghost use Rattle.node_core.specs.Keeps.{AtOwn, CoreKeeps, book_of, disks_of};
+ghost use Rattle.node_core.specs.Keeps.{AtOwn, CoreKeeps, book_of};
 ghost use Rattle.node_requests.specs.Leading.{NoLeaderToName};
 ghost use Rattle.node_due.specs.NoneDue.{NoConstructionToMake};
-ghost use Rattle.node_core.specs.Telling.{TellsOfDisk};
+ghost use Rattle.node_core.specs.Telling.{TellsOfBook};
 ghost use Rattle.node_core.specs.Taking.{IsLeftBy, IsTaken};
 
 use journal_single::Disk;
@@ -51,7 +51,7 @@ pub(crate) fn try_leader<S: Scheme<D> + Drop, L: Elector<S, D>, D: Digest, K: Di
     ensures tried { AtOwn S.Scheme L.Elector K.Disk ⟦<S as Speaks<D>>⟧.formats core.old (λ f s h.
         (actions : List (Action S D S.PublicKey S.Signature S.Certificate))
         → WasTried S.Scheme L.Elector K.Disk f s is_none (NoLeaderToName s) core.old core.new h actions actions result) }
-    ensures faults { TellsOfDisk K.Disk (disks_of core.old) (disks_of core.new) result }
+    ensures faults { TellsOfBook K.Disk (book_of core.old) (book_of core.new) result }
 {
     a_ledger_at_rest_leaves_its_record::<S, D, K>();
     name_leader(&core.voter, &mut core.acceptance)
@@ -70,7 +70,7 @@ pub(crate) fn try_votes_of_views<S: Scheme<D> + Drop, L: Elector<S, D>, D: Diges
     ensures tried { AtOwn S.Scheme L.Elector K.Disk ⟦<S as Speaks<D>>⟧.formats core.old (λ f s h.
         WasTried S.Scheme L.Elector K.Disk f s is_none (NoConstructionToMake S.Scheme f s) core.old core.new h out.old.items out.new.items
         result) }
-    ensures faults { TellsOfDisk K.Disk (disks_of core.old) (disks_of core.new) result }
+    ensures faults { TellsOfBook K.Disk (book_of core.old) (book_of core.new) result }
 {
     a_ledger_at_rest_leaves_its_record::<S, D, K>();
     what_is_made_may_be_recorded::<S, D>();
@@ -126,7 +126,7 @@ fn take_batch<S: Scheme<D> + Drop, L: Elector<S, D>, D: Digest, K: Disk>(
         → MayCome S.Scheme f s (artifact_fits D.fits S.Signature.fits S.Certificate.fits) h (Constructs view kind batch)
         → K.keeps
         → LeaveBook K.Disk (book_of core.old) (book_of core.new) (IsLeftBy S.Scheme f s h (Constructs view kind batch)) }
-    ensures faults { TellsOfDisk K.Disk (disks_of core.old) (disks_of core.new) result }
+    ensures faults { TellsOfBook K.Disk (book_of core.old) (book_of core.new) result }
 {
     a_ledger_at_rest_leaves_its_record::<S, D, K>();
     let Batch {
@@ -180,7 +180,7 @@ fn take_made<S: Scheme<D> + Drop, L: Elector<S, D>, D: Digest, K: Disk>(
         → batch.certificate ≡ Some certificate
         → K.keeps
         → LeaveBook K.Disk (book_of core.old) (book_of core.new) (IsLeftBy S.Scheme f s h (Constructs view kind batch)) }
-    ensures faults { TellsOfDisk K.Disk (disks_of core.old) (disks_of core.new) result }
+    ensures faults { TellsOfBook K.Disk (book_of core.old) (book_of core.new) result }
 {
     let was = core.voter.current_view();
     let low = core.voter.last_finalized();
@@ -215,7 +215,7 @@ fn learn_made<S: Scheme<D> + Drop, L: Elector<S, D>, D: Digest, K: Disk>(
         → batch.certificate ≡ Some certificate.now
         → K.keeps
         → LeaveBook K.Disk (book_of core.old) (book_of core.new) (IsLeftBy S.Scheme f s h (Constructs view kind batch)) }
-    ensures faults { TellsOfDisk K.Disk (disks_of core.old) (disks_of core.new) result }
+    ensures faults { TellsOfBook K.Disk (book_of core.old) (book_of core.new) result }
 {
     what_is_not_recorded_is_unknown::<S, D>();
     what_is_kept_stands_for_all::<S, D>();

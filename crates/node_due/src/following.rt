@@ -4,9 +4,9 @@ ghost use Rattle.std.specs.Prelude.{List};
 ghost use Rattle.node_requests.specs.Asking.{is_none};
 ghost use Rattle.simplex_member.specs.declared.action.Action.{Action};
 ghost use Rattle.node_due.specs.Acting.{WasTried};
-ghost use Rattle.node_core.specs.Keeps.{AtOwn, disks_of};
+ghost use Rattle.node_core.specs.Keeps.{AtOwn, book_of};
 ghost use Rattle.node_due.specs.NoneDue.{NoLeaderToFollow};
-ghost use Rattle.node_core.specs.Telling.{TellsOfDisk};
+ghost use Rattle.node_core.specs.Telling.{TellsOfBook};
 
 use journal_single::Disk;
 use node_core::Core;
@@ -29,7 +29,7 @@ pub(crate) fn try_to_follow<S: Scheme<D> + Drop, L: Elector<S, D>, D: Digest, K:
     ensures tried { AtOwn S.Scheme L.Elector K.Disk ⟦<S as Speaks<D>>⟧.formats core.old (λ f s h.
         (actions : List (Action S D S.PublicKey S.Signature S.Certificate))
         → WasTried S.Scheme L.Elector K.Disk f s is_none (NoLeaderToFollow S.Scheme f s) core.old core.new h actions actions result) }
-    ensures faults { TellsOfDisk K.Disk (disks_of core.old) (disks_of core.new) result }
+    ensures faults { TellsOfBook K.Disk (book_of core.old) (book_of core.new) result }
 {
     a_ledger_at_rest_leaves_its_record::<S, D, K>();
     silent_points_leave_votes::<S, D>();

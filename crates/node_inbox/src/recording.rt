@@ -1,12 +1,12 @@
 //! The one place where the record grows.
 
-ghost use Rattle.std.specs.Prelude.{◌≡◌, ◌≢◌, ◌++◌, ◌∷◌, [], List, map, false, IfErr, OnOk, IsErrOf};
+ghost use Rattle.std.specs.Prelude.{◌≡◌, ◌≢◌, ◌++◌, ◌∷◌, [], List, map, true, false, IfErr, OnOk, IsErrOf};
 ghost use Rattle.messages_certificates.specs.Artifact.{artifact_fits, artifact_spelling};
 ghost use Rattle.messages_certificates.specs.declared.artifact.Artifact.{Artifact};
 ghost use Rattle.simplex_record.specs.declared.owner.Owner.{Owner};
 ghost use Rattle.simplex_record.specs.Record.{entry, entries};
 ghost use Rattle.simplex_record.specs.Rules.{MayFollow};
-ghost use Rattle.journal_books.specs.Books.{HasFailed, HasNotFailed, IsWithOrWithout, LeaveBook};
+ghost use Rattle.journal_books.specs.Books.{HasFailed, HasNotFailed, IsWithOrWithout, LeaveBook, has_failed};
 ghost use Rattle.simplex_member.specs.declared.fault.NodeFault.{NodeFault};
 ghost use Rattle.simplex_member.specs.declared.fault.NodeFault.TheVariants as step_fault;
 ghost use Rattle.node_record.specs.Ledger.{KeepsRecord, book_of, disks_of};
@@ -25,8 +25,8 @@ const LONGEST: usize = u32::MAX as usize - 1;
 ///
 /// # Errors
 ///
-/// [`NodeFault::Device`] where a disk failed, and else [`NodeFault::Memory`]. Behind an error nothing is said of the ledger, but that a
-/// crash leaves the record with the artifact or without it.
+/// [`NodeFault::Failed`] where its journal has failed before, [`NodeFault::Device`] where a disk failed, and else [`NodeFault::Memory`].
+/// Behind an error nothing is said of the ledger, but that a crash leaves the record with the artifact or without it.
 #[tactic(auto, using(journal_books::specs::BooksLaws::same_not_failed))]
 pub fn record<S: Scheme<D>, D: Digest, K: Disk>(
     ledger: &mut Ledger<S, D, K>,
@@ -50,7 +50,10 @@ pub fn record<S: Scheme<D>, D: Digest, K: Disk>(
     ensures device { IsErrOf result NodeFault.Device → HasFailed K.Disk (disks_of ledger.old) (disks_of ledger.new) }
     ensures no_device { IfErr result (λ why. why ≢ step_fault.Device → HasNotFailed K.Disk (disks_of ledger.old) (disks_of ledger.new)) }
     ensures no_fault { OnOk result (HasNotFailed K.Disk (disks_of ledger.old) (disks_of ledger.new)) }
-    ensures not_failed { ¬ IsErrOf result NodeFault.Failed }
+
+    // A journal that has failed takes nothing more, and none else tells so.
+    ensures failed { IsErrOf result NodeFault.Failed → has_failed (book_of ledger.old) ≡ true }
+    ensures stays_open { OnOk result (has_failed (book_of ledger.new) ≡ false) }
 
     // It has a spelling, whatever is answered.
     ensures readable { artifact_fits D.fits S.Signature.fits S.Certificate.fits artifact }
@@ -62,10 +65,5 @@ pub fn record<S: Scheme<D>, D: Digest, K: Disk>(
     if !artifact.is_within(BOUND) {
         return Err(NodeFault::Memory);
     }
-    match ledger.record(artifact) {
-        Ok(()) => Ok(()),
-        Err(NodeFault::Device) => Err(NodeFault::Device),
-        // A ledger that holds a record hasn't failed (clause `not_failed` of `Ledger::record`).
-        Err(NodeFault::Memory | NodeFault::Failed) => Err(NodeFault::Memory),
-    }
+    ledger.record(artifact)
 }

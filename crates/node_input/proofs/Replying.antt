@@ -10,7 +10,6 @@ use Rattle.types_terms.specs.declared.elector.Elector as elector
 use Rattle.journal_single.specs.declared.disk.Disk as disk
 use Rattle.messages_certificates.specs.declared.artifact.Artifact.{Artifact}
 use Rattle.journal_books.specs.declared.books.Books.{Books}
-use Rattle.journal_books.specs.declared.disks.Disks.{Disks}
 use Rattle.journal_books.specs.Books as words
 use Rattle.journal_books.specs.Books.{LeaveBook}
 use Rattle.journal_books.specs.BooksLaws.{book_weaker, same_not_failed}
@@ -41,7 +40,7 @@ use Rattle.simplex_messages.specs.declared.vote.Vote.{Vote}
 use Rattle.simplex_messages.specs.VoteParts.{vote_signer}
 use Rattle.std.specs.Prelude.{◌≢◌}
 use Rattle.node_input.specs.Stepping.{StepsBy}
-use Rattle.node_core.specs.Telling.{TellsOfDisk}
+use Rattle.node_core.specs.Telling.{TellsOfBook, tells_nothing}
 use Rattle.node_core.specs.Taking.{IsLeftBy, IsTaken}
 use Rattle.node_outbox.specs.Handing.{AddsDeeds}
 use Rattle.node_input.specs.Hearing.{IsHeard}
@@ -52,10 +51,11 @@ use Rattle.node_input.proofs.Refusals.{blocks-needs, no-report}
 use Rattle.node_input.proofs.Tests.{first-is-one, first-of-rest}
 use Rattle.node_input.proofs.Refusals.{packet-needs}
 
--- of a disk of which nothing was asked nothing is told
-pub untouched : {K A : Type 0} (k : disk.Ghosts K) (on : Disks K) (answer : Result A NodeFault) → IfErr answer (λ why. why ≡ step_fault.Memory) → TellsOfDisk k on on answer
-untouched k on (Ok x) memory = record { device = λ is. absurd (cc is); no_device = tt; no_fault = same_not_failed k on; not_failed = λ is. absurd (cc is) }
-untouched k on (Err why) memory = record { device = λ is. absurd (cc (is, memory)); no_device = λ other. same_not_failed k on; no_fault = tt; not_failed = λ is. absurd (cc (is, memory)) }
+-- of a journal of which nothing was asked nothing is told
+pub untouched : {M K A : Type 0} (k : disk.Ghosts K) (on : Books M K) (answer : Result A NodeFault) → IfErr answer (λ why. why ≡ step_fault.Memory) → TellsOfBook k on on answer
+untouched k on (Ok x) memory = tells_nothing on x
+untouched k on (Err why) memory =
+    record { device = λ is. absurd (cc (is, memory)); no_device = λ other. same_not_failed k (words.disks_of on); no_fault = tt; failed = λ is. absurd (cc (is, memory)); stays_open = tt }
 
 module _ {S D P G C : Type 0} (g : Ghosts S D P G C) (f : Formats S D P G C) (s : Setup S D C) (h : History S D P G C) (event : Event D) where
   -- no test refuses an event: then no refusal is due
@@ -102,9 +102,9 @@ module _ {S L D P G C K : Type 0} {g : Ghosts S D P G C} {e : elector.Ghosts L S
       → (end : History S D P G C) × StepsBy g f s h event (Some r) actions end × CoreKeeps g e k f s new end
   turned-down r first acts keeps = (h, (first, (refl, acts)), keeps)
 
--- of disks that are the same nothing is told
-pub unasked : {M K A : Type 0} (k : disk.Ghosts K) (old new : Books M K) (answer : Result A NodeFault) → new ≡ old → IfErr answer (λ why. why ≡ step_fault.Memory) → TellsOfDisk k (words.disks_of old) (words.disks_of new) answer
-unasked k old new answer same memory = subst (λ (b : _). TellsOfDisk k (words.disks_of old) (words.disks_of b) answer) (sym same) (untouched k (words.disks_of old) answer memory)
+-- of a journal that is the same nothing is told
+pub unasked : {M K A : Type 0} (k : disk.Ghosts K) (old new : Books M K) (answer : Result A NodeFault) → new ≡ old → IfErr answer (λ why. why ≡ step_fault.Memory) → TellsOfBook k old new answer
+unasked k old new answer same memory = subst (λ (b : _). TellsOfBook k old b answer) (sym same) (untouched k old answer memory)
 
 module _ {S D P G C K : Type 0} (g : Ghosts S D P G C) (f : Formats S D P G C) (s : Setup S D C) (h : History S D P G C) (k : disk.Ghosts K) (old new : Books (Artifact S D P G C) K) (event : Event D) where
   -- where the journal is the same, a crash leaves the record

@@ -9,10 +9,10 @@ ghost use Rattle.simplex_member.specs.Packet.{Formats};
 ghost use Rattle.simplex_member.specs.Refusals.{blocks_sender};
 ghost use Rattle.node_outbox.specs.Handing.{AddsDeeds};
 ghost use Rattle.node_input.specs.Deciding.{IsDecided};
-ghost use Rattle.node_core.specs.Keeps.{AtOwn, disks_of};
+ghost use Rattle.node_core.specs.Keeps.{AtOwn, book_of};
 ghost use Rattle.node_input.specs.Refusing.{bytes_tests};
 ghost use Rattle.node_input.specs.Stepping.{IsHandled};
-ghost use Rattle.node_core.specs.Telling.{TellsOfDisk};
+ghost use Rattle.node_core.specs.Telling.{TellsOfBook};
 
 use crate::deciding::{Decided, decide};
 use crate::hearing::take_vote;
@@ -39,7 +39,7 @@ pub(crate) fn handle_packet<S: Scheme<D> + Drop, L: Elector<S, D>, D: Digest, K:
     ensures handled { AtOwn S.Scheme L.Elector K.Disk ⟦<S as Speaks<D>>⟧.formats core.old (λ f s h.
         out.old.items ≡ []
         → IsHandled S.Scheme L.Elector K.Disk f s core.old core.new h (event.Packet sender channel bytes) out.new.items result) }
-    ensures faults { TellsOfDisk K.Disk (disks_of core.old) (disks_of core.new) result }
+    ensures faults { TellsOfBook K.Disk (book_of core.old) (book_of core.new) result }
 {
     a_ledger_at_rest_leaves_its_record::<S, D, K>();
     match decide(core, sender, channel, &bytes) {
@@ -63,7 +63,7 @@ fn handle_decided<S: Scheme<D> + Drop, L: Elector<S, D>, D: Digest, K: Disk>(
         → IsDecided S.Scheme f s h sender (f.packet_in by bytes.items) (bytes_tests S.Scheme f s h sender by bytes.items) decided
         → out.old.items ≡ []
         → IsHandled S.Scheme L.Elector K.Disk f s core.old core.new h (event.Packet sender by bytes) out.new.items result) }
-    ensures faults { TellsOfDisk K.Disk (disks_of core.old) (disks_of core.new) result }
+    ensures faults { TellsOfBook K.Disk (book_of core.old) (book_of core.new) result }
 {
     a_ledger_at_rest_leaves_its_record::<S, D, K>();
     match decided {

@@ -2,9 +2,9 @@
 
 ghost use Rattle.std.specs.Prelude.{◌≡◌, []};
 ghost use Rattle.simplex_member.specs.declared.event.Event.TheVariants as event;
-ghost use Rattle.node_core.specs.Keeps.{AtOwn, disks_of};
+ghost use Rattle.node_core.specs.Keeps.{AtOwn, book_of};
 ghost use Rattle.node_input.specs.Stepping.{IsAnswered, IsHandled};
-ghost use Rattle.node_core.specs.Telling.{TellsOfDisk};
+ghost use Rattle.node_core.specs.Telling.{TellsOfBook};
 
 use crate::answering::{take_built, take_checked};
 use crate::receiving::handle_packet;
@@ -26,7 +26,7 @@ pub fn answer<S: Scheme<D> + Drop, L: Elector<S, D>, D: Digest, K: Disk>(
 ) -> Result<Reply<S, D>, NodeFault>
     ensures answered { AtOwn S.Scheme L.Elector K.Disk ⟦<S as Speaks<D>>⟧.formats core.old
         (λ f s h. IsAnswered S.Scheme L.Elector K.Disk f s core.old core.new h event result) }
-    ensures faults { TellsOfDisk K.Disk (disks_of core.old) (disks_of core.new) result }
+    ensures faults { TellsOfBook K.Disk (book_of core.old) (book_of core.new) result }
 {
     let mut actions = Vec::new(core.settings.alloc);
     match handle(core, event, &mut actions) {
@@ -44,7 +44,7 @@ fn handle<S: Scheme<D> + Drop, L: Elector<S, D>, D: Digest, K: Disk>(
 ) -> Result<Option<Refusal>, NodeFault>
     ensures handled { AtOwn S.Scheme L.Elector K.Disk ⟦<S as Speaks<D>>⟧.formats core.old
         (λ f s h. out.old.items ≡ [] → IsHandled S.Scheme L.Elector K.Disk f s core.old core.new h event out.new.items result) }
-    ensures faults { TellsOfDisk K.Disk (disks_of core.old) (disks_of core.new) result }
+    ensures faults { TellsOfBook K.Disk (book_of core.old) (book_of core.new) result }
 {
     match event {
         Event::Packet {
@@ -69,7 +69,7 @@ fn handle_built<S: Scheme<D> + Drop, L: Elector<S, D>, D: Digest, K: Disk>(
 ) -> Result<Option<Refusal>, NodeFault>
     ensures handled { AtOwn S.Scheme L.Elector K.Disk ⟦<S as Speaks<D>>⟧.formats core.old (λ f s h.
         out.old.items ≡ [] → IsHandled S.Scheme L.Elector K.Disk f s core.old core.new h (event.Built number payload) out.new.items result) }
-    ensures faults { TellsOfDisk K.Disk (disks_of core.old) (disks_of core.new) result }
+    ensures faults { TellsOfBook K.Disk (book_of core.old) (book_of core.new) result }
 {
     a_ledger_at_rest_leaves_its_record::<S, D, K>();
     let Some(building) = core.tables.build(number) else {
@@ -90,7 +90,7 @@ fn handle_checked<S: Scheme<D> + Drop, L: Elector<S, D>, D: Digest, K: Disk>(
 ) -> Result<Option<Refusal>, NodeFault>
     ensures handled { AtOwn S.Scheme L.Elector K.Disk ⟦<S as Speaks<D>>⟧.formats core.old
         (λ f s h. IsHandled S.Scheme L.Elector K.Disk f s core.old core.new h (event.Checked number answer) [] result) }
-    ensures faults { TellsOfDisk K.Disk (disks_of core.old) (disks_of core.new) result }
+    ensures faults { TellsOfBook K.Disk (book_of core.old) (book_of core.new) result }
 {
     a_ledger_at_rest_leaves_its_record::<S, D, K>();
     let Some(view) = core.tables.check(number) else {
@@ -112,7 +112,7 @@ fn handle_verdict<S: Scheme<D> + Drop, L: Elector<S, D>, D: Digest, K: Disk>(
 ) -> Result<Option<Refusal>, NodeFault>
     ensures handled { AtOwn S.Scheme L.Elector K.Disk ⟦<S as Speaks<D>>⟧.formats core.old (λ f s h.
         out.old.items ≡ [] → IsHandled S.Scheme L.Elector K.Disk f s core.old core.new h (event.Verdict view ok) out.new.items result) }
-    ensures faults { TellsOfDisk K.Disk (disks_of core.old) (disks_of core.new) result }
+    ensures faults { TellsOfBook K.Disk (book_of core.old) (book_of core.new) result }
 {
     a_ledger_at_rest_leaves_its_record::<S, D, K>();
     if let Some(refusal) = verdict_refusal(core, view) {
@@ -132,7 +132,7 @@ fn handle_moment<S: Scheme<D> + Drop, L: Elector<S, D>, D: Digest, K: Disk>(
 ) -> Result<Option<Refusal>, NodeFault>
     ensures handled { AtOwn S.Scheme L.Elector K.Disk ⟦<S as Speaks<D>>⟧.formats core.old
         (λ f s h. IsHandled S.Scheme L.Elector K.Disk f s core.old core.new h (event.Moment now) [] result) }
-    ensures faults { TellsOfDisk K.Disk (disks_of core.old) (disks_of core.new) result }
+    ensures faults { TellsOfBook K.Disk (book_of core.old) (book_of core.new) result }
 {
     a_ledger_at_rest_leaves_its_record::<S, D, K>();
     if let Some(refusal) = moment_refusal(core, now) {

@@ -1,7 +1,7 @@
 //! Certificates that came.
 
-ghost use Rattle.std.specs.Prelude.{◌≡◌, ◌≢◌, ◌∷◌, false, IfErr, OnOk, IsErrOf};
-ghost use Rattle.journal_books.specs.Books.{HasFailed, HasNotFailed, LeaveBook};
+ghost use Rattle.std.specs.Prelude.{◌≡◌, ◌≢◌, ◌∷◌, true, false, IfErr, OnOk, IsErrOf};
+ghost use Rattle.journal_books.specs.Books.{HasFailed, HasNotFailed, LeaveBook, has_failed};
 ghost use Rattle.simplex_member.specs.Allowed.{Allowed};
 ghost use Rattle.simplex_member.specs.declared.fault.NodeFault.{NodeFault};
 ghost use Rattle.simplex_member.specs.declared.fault.NodeFault.TheVariants as step_fault;
@@ -47,7 +47,8 @@ pub(crate) fn take_certificate<S: Scheme<D> + Drop, L: Elector<S, D>, D: Digest,
     ensures device { IsErrOf result NodeFault.Device → HasFailed K.Disk (disks_of core.old) (disks_of core.new) }
     ensures no_device { IfErr result (λ why. why ≢ step_fault.Device → HasNotFailed K.Disk (disks_of core.old) (disks_of core.new)) }
     ensures no_fault { OnOk result (HasNotFailed K.Disk (disks_of core.old) (disks_of core.new)) }
-    ensures not_failed { ¬ IsErrOf result NodeFault.Failed }
+    ensures failed { IsErrOf result NodeFault.Failed → has_failed (book_of core.old) ≡ true }
+    ensures stays_open { OnOk result (has_failed (book_of core.old) ≡ false → has_failed (book_of core.new) ≡ false) }
 {
     let was = core.voter.current_view();
     let low = core.voter.last_finalized();
@@ -72,7 +73,8 @@ fn learn<S: Scheme<D> + Drop, L: Elector<S, D>, D: Digest, K: Disk>(
     ensures device { IsErrOf result NodeFault.Device → HasFailed K.Disk (disks_of core.old) (disks_of core.new) }
     ensures no_device { IfErr result (λ why. why ≢ step_fault.Device → HasNotFailed K.Disk (disks_of core.old) (disks_of core.new)) }
     ensures no_fault { OnOk result (HasNotFailed K.Disk (disks_of core.old) (disks_of core.new)) }
-    ensures not_failed { ¬ IsErrOf result NodeFault.Failed }
+    ensures failed { IsErrOf result NodeFault.Failed → has_failed (book_of core.old) ≡ true }
+    ensures stays_open { OnOk result (has_failed (book_of core.old) ≡ false → has_failed (book_of core.new) ≡ false) }
 {
     what_is_not_recorded_is_unknown::<S, D>();
     what_is_kept_stands_for_all::<S, D>();

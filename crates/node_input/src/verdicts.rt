@@ -1,13 +1,13 @@
 //! The application's verdicts on what is notarized.
 
-ghost use Rattle.std.specs.Prelude.{◌≡◌, ◌≢◌, ◌∷◌, [], false, None, Some, if◌then◌else◌, IfErr, OnOk, IsErrOf};
+ghost use Rattle.std.specs.Prelude.{◌≡◌, ◌≢◌, ◌∷◌, [], true, false, None, Some, if◌then◌else◌, IfErr, OnOk, IsErrOf};
 ghost use Rattle.types_core.specs.Positions.{HasRoom};
 ghost use Rattle.messages_certificates.specs.Certificate.{any_certificate_spelling, as_notarization};
 ghost use Rattle.messages_certificates.specs.ProposalCertificate.{Notarization};
 ghost use Rattle.simplex_messages.specs.declared.activity.Activity.TheVariants as activity;
 ghost use Rattle.simplex_resolver.specs.Keeps as repairing;
 ghost use Rattle.simplex_resolver.specs.RepairHistory as items;
-ghost use Rattle.journal_books.specs.Books.{HasFailed, HasNotFailed, LeaveBook};
+ghost use Rattle.journal_books.specs.Books.{HasFailed, HasNotFailed, LeaveBook, has_failed};
 ghost use Rattle.simplex_member.specs.Allowed.{Allowed};
 ghost use Rattle.simplex_member.specs.Asked.{IsAwaited};
 ghost use Rattle.simplex_member.specs.declared.fault.NodeFault.{NodeFault};
@@ -66,7 +66,8 @@ pub(crate) fn take_verdict<S: Scheme<D> + Drop, L: Elector<S, D>, D: Digest, K: 
     ensures device { IsErrOf result NodeFault.Device → HasFailed K.Disk (disks_of core.old) (disks_of core.new) }
     ensures no_device { IfErr result (λ why. why ≢ step_fault.Device → HasNotFailed K.Disk (disks_of core.old) (disks_of core.new)) }
     ensures no_fault { OnOk result (HasNotFailed K.Disk (disks_of core.old) (disks_of core.new)) }
-    ensures not_failed { ¬ IsErrOf result NodeFault.Failed }
+    ensures failed { IsErrOf result NodeFault.Failed → has_failed (book_of core.old) ≡ true }
+    ensures stays_open { OnOk result (has_failed (book_of core.old) ≡ false → has_failed (book_of core.new) ≡ false) }
 {
     awaited_verdicts_may_be_taken::<S, D>();
     packets_are_read_back::<S, D>();

@@ -1,6 +1,6 @@
 //! What an opening brings is recorded behind what it finds.
 
-ghost use Rattle.std.specs.Prelude.{◌≡◌, ◌≢◌, ◌≤◌, ◌⊎◌, ◌++◌, ◌∷◌, [], ℕ, List, map, Some, IfErr, IfOk, IsErrOf, OnOk};
+ghost use Rattle.std.specs.Prelude.{◌≡◌, ◌≢◌, ◌≤◌, ◌⊎◌, ◌++◌, ◌∷◌, [], ℕ, List, map, false, Some, IfErr, IfOk, IsErrOf, OnOk};
 ghost use Rattle.types_codec.specs.Codec.{Readable};
 ghost use Rattle.messages_certificates.specs.Artifact.{artifact_spelling};
 ghost use Rattle.messages_certificates.specs.declared.artifact.Artifact.{Artifact};
@@ -12,7 +12,7 @@ ghost use Rattle.simplex_record.specs.Rules.{MayFollow};
 ghost use Rattle.voter_rules.specs.declared.floor.FloorFault.{FloorFault};
 ghost use Rattle.voter_rules.specs.Floor.{AppliesToFinal, AppliesToFloor};
 ghost use Rattle.journal_books.specs.declared.disks.Disks.{Disks};
-ghost use Rattle.journal_books.specs.Books.{AreLeftAsTheyWere, HasFailed, HasNotFailed, IsForeignOn, Leave, LeaveBook, LeaveSince, MayBeRead};
+ghost use Rattle.journal_books.specs.Books.{AreLeftAsTheyWere, HasFailed, HasNotFailed, IsForeignOn, Leave, LeaveBook, LeaveSince, MayBeRead, has_failed};
 ghost use Rattle.simplex_member.specs.declared.fault.OpenFault.TheVariants as open_fault;
 ghost use Rattle.simplex_member.specs.Setup.{brought_by};
 ghost use Rattle.node_record.specs.Founding.{HoldsBehind, IsReadBehind, MayBeFounded, OpensFrom};
@@ -121,6 +121,7 @@ impl<S: Scheme<D>, D: Digest, K: Disk> Ledger<S, D, K> {
     ) -> Result<Self, (OpenFault, Disks<K>)>
         requires sound { (fault : FloorFault) → ¬ AppliesToFinal (S.certifies scheme.now) owner.term_length owner.epoch floor.now fault }
         requires few { S.size scheme.now ≤ 65535 }
+        requires running { has_failed (book_of self) ≡ false }
         ensures holds { IfOk result (λ ledger.
             (xs : List (Artifact S D S.PublicKey S.Signature S.Certificate))
             → KeepsRecord K.Disk (artifact_spelling D.spelling S.Signature.spelling S.Certificate.spelling) owner self xs
@@ -183,7 +184,8 @@ impl<S: Scheme<D>, D: Digest, K: Disk> Ledger<S, D, K> {
         members: u32,
         floor: &Finalization<S, D>,
     ) -> Result<(), OpenFault>
-        requires { members ≤ 65535 }
+        requires few { members ≤ 65535 }
+        requires running { has_failed (book_of self.old) ≡ false }
         ensures keeps { OnOk result ((owner : Owner) (xs : List (Artifact S D S.PublicKey S.Signature S.Certificate))
             → KeepsRecord K.Disk (artifact_spelling D.spelling S.Signature.spelling S.Certificate.spelling) owner self.old xs
             → MayFollow owner.term_length (entries xs) (entry (artifact.Finalization floor.now))
@@ -218,8 +220,9 @@ impl<S: Scheme<D>, D: Digest, K: Disk> Ledger<S, D, K> {
         match self.record(artifact) {
             Ok(()) => Ok(()),
             Err(NodeFault::Device) => Err(OpenFault::Device),
-            // A ledger that holds a record hasn't failed (clause `not_failed` of `Ledger::record`).
-            Err(NodeFault::Memory | NodeFault::Failed) => Err(OpenFault::Memory),
+            Err(NodeFault::Memory) => Err(OpenFault::Memory),
+            // Only a journal that has failed tells so.
+            Err(NodeFault::Failed) => unreachable!(),
         }
     }
 }

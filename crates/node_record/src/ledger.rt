@@ -102,7 +102,7 @@ impl<S: Scheme<D>, D: Digest, K: Disk> Ledger<S, D, K> {
     ///
     /// [`NodeFault::Memory`], also for an artifact that is too long for a disk, and [`NodeFault::Device`].
     /// Afterwards nothing is said of the ledger, but that a crash leaves the record with the artifact or
-    /// without it.
+    /// without it. [`NodeFault::Failed`] where its journal has failed before.
     #[tactic(auto, using(journal_books::specs::BooksLaws::same_not_failed))]
     pub fn record(&mut self, artifact: Artifact<S, D>) -> Result<(), NodeFault>
         requires within { artifact_within (S.Certificate.within 65535) artifact }
@@ -124,6 +124,9 @@ impl<S: Scheme<D>, D: Digest, K: Disk> Ledger<S, D, K> {
         ensures no_device { IfErr result (λ why. why ≢ step_fault.Device → HasNotFailed K.Disk (disks_of self.old) (disks_of self.new)) }
         ensures no_fault { OnOk result (HasNotFailed K.Disk (disks_of self.old) (disks_of self.new)) }
 
+        // A journal that has failed takes nothing more, and none else tells so.
+        ensures failed { IsErrOf result NodeFault.Failed → has_failed (book_of self.old) ≡ true }
+        ensures stays_open { OnOk result (has_failed (book_of self.new) ≡ false) }
         ensures not_failed { (owner : Owner) (xs : List (Artifact S D S.PublicKey S.Signature S.Certificate))
             → KeepsRecord K.Disk (artifact_spelling D.spelling S.Signature.spelling S.Certificate.spelling) owner self.old xs
             → ¬ IsErrOf result NodeFault.Failed }
@@ -154,7 +157,7 @@ impl<S: Scheme<D>, D: Digest, K: Disk> Ledger<S, D, K> {
     ///
     /// [`NodeFault::Memory`], also for what is too long for a disk or can't be read again: then nothing is
     /// changed. And [`NodeFault::Device`]: afterwards nothing is said of the ledger, but that a crash leaves the
-    /// record from before the call or the rewritten one.
+    /// record from before the call or the rewritten one. [`NodeFault::Failed`] where its journal has failed before.
     #[tactic(auto, using(journal_books::specs::BooksLaws::same_not_failed))]
     pub fn rewrite(&mut self, alloc: Global) -> Result<Option<View>, NodeFault>
         ensures view { IfOk result (λ view.
@@ -193,6 +196,9 @@ impl<S: Scheme<D>, D: Digest, K: Disk> Ledger<S, D, K> {
         ensures no_device { IfErr result (λ why. why ≢ step_fault.Device → HasNotFailed K.Disk (disks_of self.old) (disks_of self.new)) }
         ensures no_fault { OnOk result (HasNotFailed K.Disk (disks_of self.old) (disks_of self.new)) }
 
+        // A journal that has failed is rewritten no more, and none else tells so.
+        ensures failed { IsErrOf result NodeFault.Failed → has_failed (book_of self.old) ≡ true }
+        ensures stays_open { OnOk result (has_failed (book_of self.old) ≡ false → has_failed (book_of self.new) ≡ false) }
         ensures not_failed { (owner : Owner) (xs : List (Artifact S D S.PublicKey S.Signature S.Certificate))
             → KeepsRecord K.Disk (artifact_spelling D.spelling S.Signature.spelling S.Certificate.spelling) owner self.old xs
             → ¬ IsErrOf result NodeFault.Failed }
@@ -231,6 +237,16 @@ impl<S: Scheme<D>, D: Digest, K: Disk> Ledger<S, D, K> {
             → HoldsRecord owner result.now xs }
     {
         &self.recorded
+    }
+
+    /// Whether its journal has failed: then it takes nothing more.
+    pub fn is_failed(&self) -> bool
+        ensures { result ≡ has_failed (book_of self.now) }
+    {
+        match &self.books {
+            Books::One(journal) => journal.is_failed(),
+            Books::Two(pair) => pair.is_failed(),
+        }
     }
 
     /// Whether it stands on two disks.

@@ -1,3 +1,4 @@
+mod Running
 mod Testing
 mod Whole
 mod Stepped

@@ -39,6 +39,7 @@ use Rattle.node_steps.specs.Opening.{IsOpen, IsOpenAndSettled, MayBeLeftOpen, ea
 use Rattle.node_steps.specs.Stepping.{GoesOn, IsAnsweredWhole}
 use Rattle.node_input.specs.Stepping.{IsAnswered, StepsAtOnce, TakesAtOnce}
 use Rattle.node_due.specs.ActsBehind.{are_acts, goes_behind, last_behind}
+use Rattle.node_steps.proofs.Running.{no_step_failed, stands}
 use Rattle.node_steps.proofs.Testing.{late}
 
 -- of tests the first that applies is one
@@ -180,7 +181,7 @@ module _ {S L D P G C K : Type 0} (g : Ghosts S D P G C) (e : elector.Ghosts L S
         are = open_is.are;
         end = settled.end;
         opens = opens_whole g f s now (open_is.found ++ open_is.founded) actions open_is.end open_is.opens e k new after settled;
-        keeps = record { running = open_is.keeps.running; core = settled.keeps };
+        keeps = stands g e k f s (record node { core = new }) settled.end (no_step_failed node open_is.keeps.running) settled.keeps;
       }
 
   -- what may be read after a crash through both

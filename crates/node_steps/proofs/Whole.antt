@@ -1,5 +1,5 @@
 -- A node that is opened, of its parts.
-use Rattle.std.proofs.Common.{◌≡◌, ◌<◌, ◌≤◌, ◌^◌, inl, inr, ⊎_elim, ◌++◌, ◌∙◌, ℕ, false, List, refl, sym, ap, subst, arith}
+use Rattle.std.proofs.Common.{◌≡◌, ◌<◌, ◌≤◌, ◌^◌, inl, inr, ⊎_elim, ◌++◌, ◌∙◌, ℕ, false, List, sym, ap, subst, arith}
 use Rattle.std.specs.Prelude.{Option, map}
 use Rattle.types_core.specs.declared.scheme.Scheme.{Ghosts}
 use Rattle.types_core.specs.Subject.{Statement}
@@ -40,7 +40,7 @@ module _ {S L D P G C K : Type 0} (g : Ghosts S D P G C) (e : elector.Ghosts L S
     end = begun.end;
     opens = begun.opens;
     keeps = subst (λ (n : Node S L D K P G C). NodeKeeps g e k f s n begun.end) (sym is) (record {
-      running = refl;
+      running = keeps.runs;
       core = record {
         begun = begun.begun;
         allowed = begun.allowed;

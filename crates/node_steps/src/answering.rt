@@ -3,8 +3,8 @@
 ghost use Rattle.std.specs.Prelude.{IsOk, IsSome};
 ghost use Rattle.simplex_member.specs.declared.event.Event.{Event};
 ghost use Rattle.simplex_member.specs.Point.{History};
-ghost use Rattle.node_core.specs.Keeps.{AtOwn, disks_of};
-ghost use Rattle.node_core.specs.Telling.{TellsOfDisk};
+ghost use Rattle.node_core.specs.Keeps.{AtOwn, book_of};
+ghost use Rattle.node_core.specs.Telling.{TellsOfBook};
 ghost use Rattle.node_input.specs.Stepping.{StepsAtOnce};
 ghost use Rattle.node_steps.specs.Stepping.{GoesOn, IsAnsweredWhole};
 
@@ -25,7 +25,7 @@ pub(crate) fn answer_whole<S: Scheme<D> + Drop, L: Elector<S, D>, D: Digest, K: 
 ) -> Result<Reply<S, D>, NodeFault>
     ensures answered { AtOwn S.Scheme L.Elector K.Disk ⟦<S as Speaks<D>>⟧.formats core.old
         (λ f s h. IsAnsweredWhole S.Scheme L.Elector K.Disk f s core.old core.new h event result) }
-    ensures faults { TellsOfDisk K.Disk (disks_of core.old) (disks_of core.new) result }
+    ensures faults { TellsOfBook K.Disk (book_of core.old) (book_of core.new) result }
 {
     match answer(core, event) {
         Ok(reply) => go_on(core, reply),
@@ -44,7 +44,7 @@ fn go_on<S: Scheme<D> + Drop, L: Elector<S, D>, D: Digest, K: Disk>(
         → StepsAtOnce S.Scheme f s h event reply mid
         → GoesOn S.Scheme L.Elector K.Disk f s core.old core.new h mid event result) }
     ensures refused { IsSome reply.refused → IsOk result }
-    ensures faults { TellsOfDisk K.Disk (disks_of core.old) (disks_of core.new) result }
+    ensures faults { TellsOfBook K.Disk (book_of core.old) (book_of core.new) result }
 {
     a_ledger_at_rest_leaves_its_record::<S, D, K>();
     let Reply {

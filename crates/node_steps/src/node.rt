@@ -37,12 +37,12 @@ impl<S: Scheme<D> + Drop, L: Elector<S, D>, D: Digest, K: Disk> Node<S, L, D, K>
         self.core.voter.last_finalized()
     }
 
-    /// Whether a step has failed. Then the record has to be opened again.
+    /// Whether a step has failed, or the journal has. Then the record has to be opened again.
     pub fn is_failed(&self) -> bool
         ensures value { result ≡ has_failed self.now }
         ensures running { AtAll S.Scheme L.Elector K.Disk self.now (λ f s h. result ≡ false) }
     {
-        self.failed
+        self.failed || self.core.ledger.is_failed()
     }
 
     /// Whether it stands on two disks.

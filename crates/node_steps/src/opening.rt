@@ -7,7 +7,7 @@ ghost use Rattle.voter_rules.specs.declared.floor.FloorFault.{FloorFault};
 ghost use Rattle.voter_rules.specs.Floor.{AppliesToFloor};
 ghost use Rattle.journal_books.specs.declared.disks.Disks.{Disks};
 ghost use Rattle.journal_books.specs.declared.disks.Disks.TheVariants.{One, Two};
-ghost use Rattle.journal_books.specs.Books.{AreLeftAsTheyWere, HasFailed, HasNotFailed, IsForeignOn, Leave, LeaveSince, are_two};
+ghost use Rattle.journal_books.specs.Books.{AreLeftAsTheyWere, HasFailed, HasNotFailed, IsForeignOn, Leave, LeaveSince, are_two, has_failed};
 ghost use Rattle.node_record.specs.Ledger as ledgers;
 ghost use Rattle.node_record.specs.Founding.{OpensFrom};
 ghost use Rattle.node_record.specs.Ledger.{IsContradiction};
@@ -252,6 +252,7 @@ fn begin<S: Scheme<D> + Drop, L: Elector<S, D>, D: Digest, K: Disk>(
     node: Node<S, L, D, K>,
     actions: Vec<Action<S, D>>,
 ) -> Result<(Node<S, L, D, K>, Vec<Action<S, D>>), (OpenFault, Disks<K>)>
+    requires running { has_failed (book_of node) ≡ false }
     ensures opened { IfOk result (λ r.
         (n : ℕ) (s : Setup S D S.Certificate) (brought : Option (Finalization S D S.PublicKey S.Signature S.Certificate)) (on : Disks K) (now : ℕ)
         → n ≡ S.size s.voter.scheme

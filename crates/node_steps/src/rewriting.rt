@@ -55,7 +55,7 @@ impl<S: Scheme<D> + Drop, L: Elector<S, D>, D: Digest, K: Disk> Node<S, L, D, K>
             → K.keeps
             → Leave K.Disk (disks_of self.old) (disks_of self.new) (IsLeftByRewrite S.Scheme f s h)) }
     {
-        if self.failed {
+        if self.is_failed() {
             return Err(NodeFault::Failed);
         }
         match self.core.rewrite() {

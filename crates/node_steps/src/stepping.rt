@@ -44,7 +44,7 @@ impl<S: Scheme<D> + Drop, L: Elector<S, D>, D: Digest, K: Disk> Node<S, L, D, K>
         ensures without_memory { AtOwn S.Scheme L.Elector K.Disk ⟦<S as Speaks<D>>⟧.formats self.old
             (λ f s h. (r : Refusal) → IsFirst (tests S.Scheme f s h event) (Some r) → needs_nothing r ≡ true → IsOk result) }
     {
-        if self.failed {
+        if self.is_failed() {
             return Err(NodeFault::Failed);
         }
         match answer_whole(&mut self.core, event) {

@@ -1,12 +1,10 @@
-use Rattle.std.proofs.Common.{◌≡◌, ◌<◌, Ok, refl, ◌∙◌, subst, arith}
-use Rattle.journal_books.specs.BooksLaws.{not_failed_then, same_not_failed}
-use Rattle.node_core.specs.Keeps.{disks_of}
-use Rattle.node_core.specs.Telling.{tells_behind, tells_err}
+use Rattle.std.proofs.Common.{◌≡◌, ◌<◌, refl, ◌∙◌, subst, arith}
+use Rattle.node_core.specs.Keeps.{book_of}
+use Rattle.node_core.specs.Telling.{tells_behind, tells_err, tells_nothing, tells_ok}
 use Rattle.simplex_member.specs.Packet.{formats}
 use Rattle.simplex_member.specs.Recorded.{kept_of}
 use Rattle.simplex_member.specs.Setup.{owner_of}
 use Rattle.node_requests.specs.declared.acted.Acted.TheVariants as came
-use Rattle.node_due.proofs.Casting.{asked_well}
 use Rattle.node_due.proofs.Settling.{acts_ended, none_acted, nothing_acted, one_acted, one_failed}
 use Rattle.node_due.proofs.acting.settle.Goals as goal
 
@@ -15,13 +13,13 @@ acts-init g c = record {
   acts = λ s h k.
       let f = formats {S = g.row.S.Denot} {P = g.row.S-PublicKey.Denot} g.D.PartialEq.eq g.D.Write.spelling g.S.Signature.Write.spelling g.S.Certificate.Write.spelling g.D.Read.reading g.S.Signature.Read.reading g.S.Certificate.Read.reading (g.S.Scheme.size s.voter.scheme) in
       none_acted g.S.Scheme g.L.Elector g.K.Disk f s c.args.core.now h c.args.out.now.items k (c.a_ledger_at_rest_leaves_its_record.ensures (owner_of s) c.args.core.now.ledger (kept_of s.voter.length h) k.ledger);
-  no_fault = same_not_failed g.K.Disk (disks_of c.args.core.now);
+  told = tells_nothing (book_of c.args.core.now) came.Did;
 }
 
 pub acts-preserved : goal.acts-preserved
 acts-preserved g c = record {
   acts = λ s h k. one_acted (c.acts.invariant.acts s h k) c.in-Ok-Did.field-0-is (c.in-Ok-Did.ensures.tried s);
-  no_fault = not_failed_then g.K.Disk _ _ _ c.acts.invariant.no_fault c.in-Ok-Did.ensures.faults.no_fault;
+  told = tells_ok (tells_behind c.acts.invariant.told c.in-Ok-Did.ensures.faults);
 }
 
 pub returns-in-Ok-Nothing-clause-settled : goal.returns-in-Ok-Nothing-clause-settled
@@ -38,13 +36,12 @@ returns-clause-settled g c = λ s h k.
     let some : 0 < g.S.Scheme.size s.voter.scheme = subst (λ x. 0 < g.S.Scheme.size x) (c.deref.ensures ∙ k.set_up.scheme_is) c.participants-members.ensures.some in
     absurd (acts_ended c.acts.counter (omega (arith, c.acts-test.false)) k (c.acts.invariant.acts s h k) some (c.acts_end.ensures.anyhow f s g.met.D.Digest.equal_is_same))
 
--- no disk failed at an act before
+-- no act before has failed
 pub returns-in-Err-clause-faults : goal.returns-in-Err-clause-faults
-returns-in-Err-clause-faults g c = tells_err _ _ refl refl
-    (tells_behind (asked_well g.K.Disk _ _ (Ok came.Did) c.acts.invariant.no_fault tt) c.in-Err.ensures.faults)
+returns-in-Err-clause-faults g c = tells_err _ _ refl refl (tells_behind c.acts.invariant.told c.in-Err.ensures.faults)
 
 pub returns-in-Ok-Nothing-clause-faults : goal.returns-in-Ok-Nothing-clause-faults
-returns-in-Ok-Nothing-clause-faults g c = tells_behind (asked_well g.K.Disk _ _ (Ok came.Nothing) c.acts.invariant.no_fault tt) (tells_behind c.in-Ok-Nothing.ensures.faults c.say_when.ensures.faults)
+returns-in-Ok-Nothing-clause-faults g c = tells_behind c.acts.invariant.told (tells_behind c.in-Ok-Nothing.ensures.faults c.say_when.ensures.faults)
 
 pub returns-clause-faults : goal.returns-clause-faults
-returns-clause-faults g c = tells_behind (asked_well g.K.Disk _ _ (Ok came.Nothing) c.acts.invariant.no_fault tt) c.say_when-2.ensures.faults
+returns-clause-faults g c = tells_behind c.acts.invariant.told c.say_when-2.ensures.faults

@@ -39,8 +39,8 @@ returns-in-Ok-clause-any_moment g c = λ s h k awaited keeps.
 pub returns-in-Ok-clause-device : goal.returns-in-Ok-clause-device
 returns-in-Ok-clause-device g c = λ is. absurd (let never : step_fault.Device ≡ step_fault.Memory = IfErr-at_err (λ (why : NodeFault). why ≡ step_fault.Memory) is c.learn_verdict.ensures.fault in cc never)
 
-pub returns-in-Ok-clause-not_failed : goal.returns-in-Ok-clause-not_failed
-returns-in-Ok-clause-not_failed g c = λ is. let never : step_fault.Failed ≡ step_fault.Memory = IfErr-at_err (λ (why : NodeFault). why ≡ step_fault.Memory) is c.learn_verdict.ensures.fault in cc never
+pub returns-in-Ok-clause-failed : goal.returns-in-Ok-clause-failed
+returns-in-Ok-clause-failed g c = λ is. absurd (let never : step_fault.Failed ≡ step_fault.Memory = IfErr-at_err (λ (why : NodeFault). why ≡ step_fault.Memory) is c.learn_verdict.ensures.fault in cc never)
 
 pub returns-in-Err-clause-any_moment : goal.returns-in-Err-clause-any_moment
 returns-in-Err-clause-any_moment g c = λ s h k awaited keeps.

@@ -4,9 +4,8 @@ use Rattle.simplex_member.specs.Packet.{formats}
 use Rattle.simplex_member.specs.Recorded.{kept_of}
 use Rattle.simplex_member.specs.Setup.{owner_of}
 use Rattle.node_steps.proofs.Stepped.{failed_goes_on, refused_goes_on, settled_goes_on}
-use Rattle.journal_books.specs.BooksLaws.{same_not_failed}
-use Rattle.node_core.specs.Keeps.{disks_of}
-use Rattle.node_core.specs.Telling.{tells_err, tells_ok}
+use Rattle.node_core.specs.Keeps.{book_of}
+use Rattle.node_core.specs.Telling.{tells_err, tells_nothing, tells_ok}
 use Rattle.node_steps.proofs.answering.go_on.Goals as goal
 
 pub returns-then-is_some-clause-goes_on : goal.returns-then-is_some-clause-goes_on
@@ -33,6 +32,6 @@ returns-in-Err-clause-faults g c = tells_err _ _ refl refl c.in-Err.ensures.faul
 pub returns-in-Ok-clause-faults : goal.returns-in-Ok-clause-faults
 returns-in-Ok-clause-faults g c = tells_ok c.in-Ok.ensures.faults
 
--- nothing was asked of a disk
+-- nothing was asked of the journal
 pub returns-then-is_some-clause-faults : goal.returns-then-is_some-clause-faults
-returns-then-is_some-clause-faults g c = record { device = λ is. absurd (cc is); no_device = tt; no_fault = same_not_failed g.K.Disk (disks_of c.args.core.now); not_failed = λ is. absurd (cc is) }
+returns-then-is_some-clause-faults g c = tells_nothing (book_of c.args.core.now) _

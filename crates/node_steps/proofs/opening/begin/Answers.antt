@@ -1,4 +1,4 @@
-use Rattle.std.proofs.Common.{ℕ, subst, sym}
+use Rattle.std.proofs.Common.{ℕ, Err, ap, subst, sym}
 use Rattle.journal_books.specs.declared.disks.Disks.{Disks}
 use Rattle.journal_books.specs.Books.{HasFailed, HasNotFailed}
 use Rattle.simplex_member.specs.Packet.{formats}
@@ -16,9 +16,9 @@ returns-in-Ok-clause-any_moment g c = λ n s brought on now size open_is keeps o
     left_at_size c.settle.new.core (λ (m : ℕ). formats {S = g.row.S.Denot} {P = g.row.S-PublicKey.Denot} g.D.PartialEq.eq g.D.Write.spelling g.S.Signature.Write.spelling g.S.Certificate.Write.spelling g.D.Read.reading g.S.Signature.Read.reading g.S.Certificate.Read.reading m) size
     (λ h k. (c.in-Ok.ensures.settled s h k).any_moment keeps) open_is one
 
--- no step failed before
+-- the journal that was opened hasn't failed
 pub not_begun-requires : goal.not_begun-requires
-not_begun-requires g c = λ is. c.in-Err.ensures.faults.not_failed (let same = is in cc same)
+not_begun-requires g c = λ is. let before = c.in-Err.ensures.faults.failed (ap Err is) in absurd (cc (before, c.requires.running))
 
 -- where what was due was not done, the disk is given back as it was left
 pub returns-in-Err-clause-memory : goal.returns-in-Err-clause-memory

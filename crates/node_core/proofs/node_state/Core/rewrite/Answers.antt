@@ -23,8 +23,8 @@ returns-in-Ok-None-clause-any_moment g c = λ s h k none keeps.
     let terms : 0 < s.voter.length = subst (λ (o : Owner). 0 < o.term_length) k.set_up.owner_is c.get-views.ensures.at_least_one in
     leave_weaker g.K.Disk _ _ (left_by_rewrite g.S.Scheme g.L.Elector g.K.Disk f s c.args.self.now h k terms (c.rewrites_leave_nothing_due.ensures f s) none) _ _ (c.rewrite.ensures.any_moment (owner_of s) (kept_of s.voter.length h) k.ledger keeps)
 
-pub returns-in-Err-Device-clause-any_moment : goal.returns-in-Err-Device-clause-any_moment
-returns-in-Err-Device-clause-any_moment g c = λ s h k none keeps.
+pub returns-in-Err-clause-any_moment : goal.returns-in-Err-clause-any_moment
+returns-in-Err-clause-any_moment g c = λ s h k none keeps.
     let f = formats {S = g.row.S.Denot} {P = g.row.S-PublicKey.Denot} g.D.PartialEq.eq g.D.Write.spelling g.S.Signature.Write.spelling g.S.Certificate.Write.spelling g.D.Read.reading g.S.Signature.Read.reading g.S.Certificate.Read.reading (g.S.Scheme.size s.voter.scheme) in
     let terms : 0 < s.voter.length = subst (λ (o : Owner). 0 < o.term_length) k.set_up.owner_is c.get-views.ensures.at_least_one in
     leave_weaker g.K.Disk _ _ (left_by_rewrite g.S.Scheme g.L.Elector g.K.Disk f s c.args.self.now h k terms (c.rewrites_leave_nothing_due.ensures f s) none) _ _ (c.rewrite.ensures.any_moment (owner_of s) (kept_of s.voter.length h) k.ledger keeps)
@@ -54,14 +54,5 @@ returns-in-Ok-Some-clause-none_if_it_begins_there g c = λ s h k none. let is = 
 pub returns-in-Ok-None-clause-view : goal.returns-in-Ok-None-clause-view
 returns-in-Ok-None-clause-view g c = λ s h k. (rw c.in-Ok-None.field-0-is at c.in-Ok-None.ensures.view) (owner_of s) (kept_of s.voter.length h) k.ledger
 
-pub returns-in-Err-Device-clause-none_if_it_begins_there : goal.returns-in-Err-Device-clause-none_if_it_begins_there
-returns-in-Err-Device-clause-none_if_it_begins_there g c = λ s h k none. let is = c.in-Err-Device.ensures.none_if_it_begins_there (owner_of s) (kept_of s.voter.length h) k.ledger none in absurd (cc is)
-
-pub returns-in-Err-Memory-clause-any_moment : goal.returns-in-Err-Memory-clause-any_moment
-returns-in-Err-Memory-clause-any_moment g c = λ s h k none keeps.
-    let f = formats {S = g.row.S.Denot} {P = g.row.S-PublicKey.Denot} g.D.PartialEq.eq g.D.Write.spelling g.S.Signature.Write.spelling g.S.Certificate.Write.spelling g.D.Read.reading g.S.Signature.Read.reading g.S.Certificate.Read.reading (g.S.Scheme.size s.voter.scheme) in
-    let terms : 0 < s.voter.length = subst (λ (o : Owner). 0 < o.term_length) k.set_up.owner_is c.get-views.ensures.at_least_one in
-    leave_weaker g.K.Disk _ _ (left_by_rewrite g.S.Scheme g.L.Elector g.K.Disk f s c.args.self.now h k terms (c.rewrites_leave_nothing_due.ensures f s) none) _ _ (c.rewrite.ensures.any_moment (owner_of s) (kept_of s.voter.length h) k.ledger keeps)
-
-pub returns-in-Err-Memory-clause-none_if_it_begins_there : goal.returns-in-Err-Memory-clause-none_if_it_begins_there
-returns-in-Err-Memory-clause-none_if_it_begins_there g c = λ s h k none. let is = c.rewrite.ensures.none_if_it_begins_there (owner_of s) (kept_of s.voter.length h) k.ledger none in absurd (cc (is, c.in-Err-Memory.is))
+pub returns-in-Err-clause-none_if_it_begins_there : goal.returns-in-Err-clause-none_if_it_begins_there
+returns-in-Err-clause-none_if_it_begins_there g c = λ s h k none. let is = c.in-Err.ensures.none_if_it_begins_there (owner_of s) (kept_of s.voter.length h) k.ledger none in absurd (cc is)

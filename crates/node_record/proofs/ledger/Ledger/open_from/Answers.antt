@@ -88,3 +88,7 @@ returns-in-Finalized-clause-no_fault g c = IfOk-weaker c.found.result _ _ (λ le
 -- it was tested as what the opening brings
 pub found-requires-clause-sound : goal.found-requires-clause-sound
 found-requires-clause-sound g c = λ fault. rw c.in-Finalized.is at (c.requires.sound fault)
+
+-- and it is the first call of a journal that was just opened
+pub found-requires-clause-running : goal.found-requires-clause-running
+found-requires-clause-running g c = c.in-Ok.ensures.opened.keeps.runs

@@ -23,7 +23,7 @@ returns-then-not-is_within-clause-any_moment g c = λ owner xs k keeps. book_wea
 -- what can be read again in a committee can be in the largest
 pub record-requires : goal.record-requires
 record-requires g c = record {
-  within = artifact_within-weaker (λ x within. g.met.S.Certificate.Read.grows c.args.members 65535 x c.requires within) (artifact.Finalization c.in-Ok.copy) (c.is_within.ensures.0 (grind (arith, c.if-not-is_within.false)));
+  within = artifact_within-weaker (λ x within. g.met.S.Certificate.Read.grows c.args.members 65535 x c.requires.few within) (artifact.Finalization c.in-Ok.copy) (c.is_within.ensures.0 (grind (arith, c.if-not-is_within.false)));
 }
 
 -- it is recorded

@@ -1,4 +1,4 @@
-use Rattle.std.proofs.Common.{◌≡◌, ◌≤◌, ⊎_elim, inl, ℕ, refl, sym, ◌∙◌, subst, Some, None}
+use Rattle.std.proofs.Common.{◌≡◌, ◌≤◌, ⊎_elim, inl, ℕ, refl, sym, ◌∙◌, subst, false, Some, None}
 use Rattle.std.proofs.lemmas.Result.{IfErr-weaker, IfOk-weaker}
 use Rattle.types_codec.specs.Codec.{Readable}
 use Rattle.messages_certificates.specs.Artifact.{artifact_fits, artifact_within}
@@ -103,6 +103,10 @@ returns-in-Ok-open_over-clause-foreign g c =
 pub returns-in-Ok-open_over-clause-contradiction : goal.returns-in-Ok-open_over-clause-contradiction
 returns-in-Ok-open_over-clause-contradiction g c =
     IfErr-weaker c.begin.result _ _ (λ r told position index own is. absurd (⊎_elim (λ memory. cc (memory, is)) (λ device. cc (device, is)) told)) c.begin.ensures.memory
+
+-- the journal that was opened hasn't failed
+pub begin-requires-clause-running : goal.begin-requires-clause-running
+begin-requires-clause-running g c = subst (λ (b : _). words.has_failed b ≡ false) (sym c.in-Ok-open_over.ensures.book) c.in-Ok-opened.ensures.opened.keeps.runs
 
 -- nor has a disk failed
 pub returns-in-Ok-open_over-clause-device : goal.returns-in-Ok-open_over-clause-device

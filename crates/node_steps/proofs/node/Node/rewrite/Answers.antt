@@ -1,5 +1,6 @@
 use Rattle.std.proofs.Common.{sym, ◌∙◌}
 use Rattle.node_core.specs.Telling.{tells_as_many}
+use Rattle.node_steps.proofs.Running.{by_its_journal, no_step_failed, stands}
 use Rattle.node_steps.proofs.node.Node.rewrite.Goals as goal
 
 pub returns-in-Ok-clause-view : goal.returns-in-Ok-clause-view
@@ -8,7 +9,7 @@ returns-in-Ok-clause-view g c = λ s h k. c.in-Ok.ensures.view s h k.core
 pub returns-in-Ok-clause-rewritten : goal.returns-in-Ok-clause-rewritten
 returns-in-Ok-clause-rewritten g c = λ floor is s h k.
     let so = c.in-Ok.ensures.rewritten floor is s h k.core in
-    record { floor = so.floor; at = so.at; rewritten = so.rewritten; keeps = record { running = k.running; core = so.keeps } }
+    record { floor = so.floor; at = so.at; rewritten = so.rewritten; keeps = stands _ _ _ _ s _ _ (no_step_failed c.args.self.now k.running) so.keeps }
 
 pub returns-in-Ok-clause-none_if_it_begins_there : goal.returns-in-Ok-clause-none_if_it_begins_there
 returns-in-Ok-clause-none_if_it_begins_there g c = λ s h k begins. sym c.in-Ok.is ∙ c.rewrite.ensures.none_if_it_begins_there s h k.core begins
@@ -28,3 +29,7 @@ returns-in-Ok-clause-as_many g c = tells_as_many _ _ _ c.rewrite.ensures.faults
 
 pub returns-in-Err-clause-as_many : goal.returns-in-Err-clause-as_many
 returns-in-Err-clause-as_many g c = tells_as_many _ _ _ c.rewrite.ensures.faults
+
+-- that it had failed is told only where its journal had
+pub returns-in-Err-clause-failed_before : goal.returns-in-Err-clause-failed_before
+returns-in-Err-clause-failed_before g c = λ is. by_its_journal c.args.self.now (c.in-Err.ensures.faults.failed is)
