@@ -11,8 +11,8 @@ ZEROS = "0" * 64
 DEFAULTS = {
     "epoch": 0, "genesis": ZEROS, "base": "simplex", "members": None, "term-length": 4, "stall-timeout": 10_000, "optimistic-views": 2,
     "seed": None, "member": None, "record": None, "leader-timeout": 1000, "certification-timeout": 2000, "retry-timeout": 5000,
-    "retention": 10, "skips": True, "skip-timeout": 8000, "skip-budget": None, "forwarding": "disabled", "historical-votes": True,
-    "rewrite-views": 0,
+    "retention": 10, "skips": True, "skip-timeout": 8000, "skip-budget": None, "forwarding": "disabled", "repair": "with-nullify",
+    "repair-window": 1024, "historical-votes": True, "rewrite-views": 0,
 }
 TITLES = {
     "epoch": "# alike at all members, and through all lives of a record\n", "member": "\n# this member\n",
@@ -21,11 +21,11 @@ TITLES = {
 NEEDED = ("members", "member")
 COUNTS = (*NEEDED, "term-length")
 TRUTHS = ("skips", "historical-votes")
-POLICIES = ("disabled", "silent-voters", "silent-leader")
+POLICIES = {"forwarding": ("disabled", "silent-voters", "silent-leader"), "repair": ("once", "with-nullify")}
 RANGES = {
     "genesis": "not 64 hexadecimal digits", "seed": "not an even number of hexadecimal digits", "base": "no text", "record": "no text",
     "skips": "neither true nor false", "historical-votes": "neither true nor false",
-    "forwarding": "none of disabled, silent-voters and silent-leader",
+    "forwarding": "none of disabled, silent-voters and silent-leader", "repair": "neither once nor with-nullify",
 }
 UNFIT = ("nan", "-1", "1.5", "inf", '"x"', "true", "[1,2]", "{}", "1979-05-27", "07:32:00", '"0g"', '"abc"', "4294967296", '""', "[[1]]")
 STRANGERS = ("Epoch=1", "x=1", "seeds='00'", "member-s=1", "leader-timout=1", "recor=''", "a.b=1", "skip=true", '""=1')
@@ -41,8 +41,8 @@ def fits(key, value):
         return isinstance(value, bool)
     if key in ("base", "record"):
         return isinstance(value, str)
-    if key == "forwarding":
-        return value in POLICIES
+    if key in POLICIES:
+        return value in POLICIES[key]
     if key in ("genesis", "seed"):
         return isinstance(value, str) and bool(re.fullmatch(r"[0-9a-fA-F]{64}" if key == "genesis" else r"([0-9a-fA-F]{2})*", value))
     return type(value) is int and 0 <= value < (2**32 if key in COUNTS else 2**63)
@@ -139,8 +139,8 @@ class Files:
     def value(self, key):
         if key in TRUTHS:
             return self.one_of("true", "false")
-        if key == "forwarding":
-            return f'"{self.one_of(*POLICIES)}"'
+        if key in POLICIES:
+            return f'"{self.one_of(*POLICIES[key])}"'
         if key in ("base", "record"):
             return self.text()
         if key in ("genesis", "seed"):

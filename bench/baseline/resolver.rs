@@ -59,7 +59,8 @@ fn number(bytes: &mut Vec<u8>, number: u64) {
 }
 
 enum Effect {
-    Fetch { view: u64 },
+    /// Of these views the first, and each later one that starts a term.
+    Fetch { first: u64, last: u64 },
     Settled { end: u64 },
     Finalized(u64),
     Raised(u64),
@@ -169,7 +170,8 @@ impl State {
             self.failed.insert(view);
         }
         if view > self.floor && self.covering(view).is_none() {
-            effects.push(Effect::Fetch { view });
+            let (first, last) = (view, view);
+            effects.push(Effect::Fetch { first, last });
         }
         effects
     }
@@ -187,10 +189,13 @@ impl State {
     fn scan(&mut self, effects: &mut Vec<Effect>) {
         let mut view = self.looked.max(self.floor + 1);
         while view < self.current {
+            let mut last = view;
             if self.covering(view).is_none() {
-                effects.push(Effect::Fetch { view });
+                let next = self.nullifications.range(view + 1..self.current).next();
+                last = next.map_or(self.current, |(view, _)| *view) - 1;
+                effects.push(Effect::Fetch { first: view, last });
             }
-            view = self.term_end(view) + 1;
+            view = self.term_end(last) + 1;
         }
         self.looked = view;
     }
@@ -231,7 +236,10 @@ impl Given {
     fn effects(&mut self, effects: &[Effect]) {
         for effect in effects {
             match effect {
-                Effect::Fetch { view } => self.add(*view),
+                Effect::Fetch { first, last } => {
+                    self.add(*first);
+                    self.add(*last);
+                }
                 Effect::Settled { end } => self.add(*end),
                 Effect::Finalized(view) | Effect::Raised(view) => self.add(*view),
             }

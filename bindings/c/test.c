@@ -142,12 +142,18 @@ static void test_settings(void) {
         change; \
         WANT(voumlis_settings_check(&settings, &found), status); \
     } while (0)
-    WANT_NONE(settings.version = 2, VOUMLIS_VERSION);
+    WANT_NONE(settings.version = 1, VOUMLIS_VERSION);
+    WANT_NONE(settings.version = 3, VOUMLIS_VERSION);
     WANT_NONE(settings.version = 0, VOUMLIS_VERSION);
     WANT_NONE(settings.size = sizeof settings - 1, VOUMLIS_VERSION);
+    WANT_NONE(settings.size = 176, VOUMLIS_VERSION);
     WANT_NONE(settings.size = sizeof settings + 8, VOUMLIS_VERSION);
     WANT_NONE(settings.skips = 3, VOUMLIS_ARGUMENT);
     WANT_NONE(settings.forwarding = 3, VOUMLIS_ARGUMENT);
+    WANT_NONE(settings.repair = 2, VOUMLIS_ARGUMENT);
+    WANT_NONE(settings.repair_window = 0, VOUMLIS_DONE);
+    WANT_NONE(settings.repair_window = UINT64_MAX, VOUMLIS_DONE);
+    WANT_NONE(settings.unused = 7, VOUMLIS_DONE);
     WANT_NONE(settings.historical_votes = 2, VOUMLIS_ARGUMENT);
     WANT_NONE(settings.shuffled = 2, VOUMLIS_ARGUMENT);
     WANT_NONE(settings.base = NULL, VOUMLIS_ARGUMENT);

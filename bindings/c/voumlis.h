@@ -120,6 +120,12 @@ enum voumlis_forwarding {
     VOUMLIS_FORWARDING_SILENT_LEADER = 2
 };
 
+/* Whether an ask for what others have goes again while nothing settled it. */
+enum voumlis_repair {
+    VOUMLIS_REPAIR_ONCE = 0,
+    VOUMLIS_REPAIR_WITH_NULLIFY = 1 /* with each vote to give a view up that is sent again */
+};
+
 /* How a member is set up: `voumlis_settings_of` makes one, of which what is to be otherwise is changed. Times are in
  * milliseconds. ALIKE at all members of a committee, and through all lives of a record: members, term_length, shuffled, epoch,
  * stall_timeout, optimistic_views, genesis, base and seed; and member through all lives of its record. The rest may differ.
@@ -148,10 +154,13 @@ struct voumlis_settings {
     size_t base_length;
     const uint8_t *seed; /* at most 255 bytes */
     size_t seed_length;
+    uint64_t repair_window; /* for how many views to leave behind others are asked at once; 0 for all */
+    uint32_t repair;        /* enum voumlis_repair */
+    uint32_t unused;        /* read by nobody */
 };
-#define VOUMLIS_SETTINGS_VERSION 1
+#define VOUMLIS_SETTINGS_VERSION 2
 /* The library reads this form: else this isn't compiled. */
-typedef char voumlis_settings_form[sizeof(struct voumlis_settings) == 176 ? 1 : -1];
+typedef char voumlis_settings_form[sizeof(struct voumlis_settings) == 192 ? 1 : -1];
 
 /* The views of a node. */
 struct voumlis_views {
@@ -312,7 +321,8 @@ static inline uint32_t voumlis_node_open_pair(uint16_t members, uint16_t member,
     return voumlis_proved_node_open_pair(members, member, cuts, record, record_length, second, second_length, node, found);
 }
 
-/* The settings of the program `simplex node`, as `member` of `members` is set up by it. */
+/* The settings of the program `simplex node`, as `member` of `members` is set up by it, but that asks go again with each vote
+ * that is sent again, for 1,024 views at once: so a committee that loses packets gets on. */
 static inline struct voumlis_settings voumlis_settings_of(uint32_t members, uint32_t member) {
     struct voumlis_settings settings;
     memset(&settings, 0, sizeof settings);
@@ -330,6 +340,8 @@ static inline struct voumlis_settings voumlis_settings_of(uint32_t members, uint
     settings.retry_timeout = 5000;
     settings.retention = 10;
     settings.skip_timeout = 8000;
+    settings.repair = VOUMLIS_REPAIR_WITH_NULLIFY;
+    settings.repair_window = 1024;
     settings.base = (const uint8_t *)"simplex";
     settings.base_length = 7;
     return settings;
@@ -359,8 +371,8 @@ static inline uint32_t voumlis_sets(const struct voumlis_settings *settings, con
 static inline uint32_t voumlis_faults(uint32_t members) { return members == 0 ? 0 : (members - 1) / 3; }
 
 /* Whether a node can be opened with these settings, also of a committee that bears no fault. DONE. SETTINGS: the place is the
- * number of the first fault. VERSION: they are of another size or version. ARGUMENT: `skips`, `forwarding`, `shuffled` or
- * `historical_votes` is none of its values. MEMORY. */
+ * number of the first fault. VERSION: they are of another size or version. ARGUMENT: `skips`, `forwarding`, `repair`,
+ * `shuffled` or `historical_votes` is none of its values. MEMORY. */
 static inline uint32_t voumlis_settings_check(const struct voumlis_settings *settings, struct voumlis_found *found) {
     const uint8_t *base, *seed;
     uint32_t status = voumlis_sets(settings, &base, &seed, found);

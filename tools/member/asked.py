@@ -1,8 +1,11 @@
 """What a node asked for since its opening, and what of it stands."""
-from .history import Asks, AsksBuild, AsksCertify, AsksVerify, Built, Checked, GivesBack, Heard, LeavesBehind, latest, opened_at, over
+from .history import (
+    Asks, AsksBuild, AsksCertify, AsksVerify, Built, Checked, GivesBack, Heard, LeavesBehind, Opened, Repeats, Told, Wanted, latest, opened_at,
+    over,
+)
 from .positions import MOST
 from .record import is_kept_judged
-from .repair import is_settled
+from .repair import ANCESTRY, is_settled, served
 from .voter import last_finalized
 
 
@@ -62,6 +65,36 @@ def is_answered(h, view, kind, until, to):
     return is_settled(h, view, kind) or (view, kind, until, to) in sent(h)
 
 
+@over(frozenset())
+def sent_now(asked, here):
+    """The asks that were sent since the time was told last."""
+    point = here.point
+    if isinstance(point, (Opened, Told)):
+        return frozenset()
+    return asked | {(point.view, point.kind, point.until, point.to)} if isinstance(point, Asks) else asked
+
+
+@over(False)
+def was_repeated(repeated, here):
+    """A nullify was repeated since the time was told last."""
+    return not isinstance(here.point, (Opened, Told)) and (repeated or isinstance(here.point, Repeats))
+
+
+def goes_again(h):
+    """What was asked goes again: a nullify was repeated since the time was told last, and asks go with it."""
+    return h.setup.goes_again and was_repeated(h)
+
+
+def is_out(h, view, kind, until, to):
+    """This went out for now, to the same member or to all; or nothing is left to be asked."""
+    return is_settled(h, view, kind) or (view, kind, until, to) in (sent_now(h) if goes_again(h) else sent(h))
+
+
+def pending(h):
+    """What was asked until a finalization, where it goes again."""
+    return sorted((it for it in sent(h) if it[2] == ANCESTRY), key=lambda it: (it[0], it[1], it[3] is not None, it[3] or 0)) if goes_again(h) else []
+
+
 @over({})
 def heard(moments, here):
     """When members were heard last: at their last accepted vote."""
@@ -72,3 +105,22 @@ def heard(moments, here):
 def last_heard(h, member):
     """When a member was heard last: at its last accepted vote, or at the opening."""
     return heard(h).get(member, opened_at(h))
+
+
+# ---- what others asked
+
+
+@over({})
+def served_at(moments, here):
+    """When which member was served which certificate last."""
+    if not isinstance(here.point, Wanted):
+        return moments
+    certificate = answer_to(here.before, here.point.member, here.point.view)
+    return moments if certificate is None else {**moments, (here.point.member, certificate): latest(here.before)}
+
+
+def answer_to(h, member, view):
+    """What a member is served that asks for a view, or None: the same certificate not again before the stated time has passed."""
+    certificate, answers = served(h, view), h.setup.answers
+    last = None if certificate is None or answers is None else served_at(h).get((member, certificate))
+    return None if last is not None and latest(h) < last + answers else certificate

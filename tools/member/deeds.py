@@ -1,10 +1,10 @@
 """What a point hands out. Where several things come of one point their order among themselves is free."""
+from .asked import answer_to
 from .codec import certificate_bytes, varint, vote_bytes
 from .history import (
     Asks, AsksBuild, AsksCertify, AsksVerify, Began, Built, Came, Constructs, Found, Heard, Judged, Repeats, Votes, Wanted,
 )
 from .record import certificates, recorded_by, reports_of
-from .repair import served
 from .rounds import votes_of
 from .values import (
     CERTIFICATE_CHANNEL, FETCH_CHANNEL, FINALIZATION, VOTE_CHANNEL, Block, Build, Certificate, Certify, Finalized, Forward, Report,
@@ -66,7 +66,7 @@ def deeds(here):
         case Came(certificate):
             return certificate_deeds(here, certificate)
         case Wanted(member, view):
-            certificate = served(h, view)
+            certificate = answer_to(h, member, view)
             return [Send(member, CERTIFICATE_CHANNEL, certificate_bytes(certificate))] if certificate else []
         case Built(_, handoff, context, payload, True) if payload is not None:
             return [Forward(payload, "prepare" if handoff else "propose", Round(context.epoch, context.view))]

@@ -4,13 +4,18 @@ A case begins with a `reset` line; each line is a call and, behind `=>`, what th
 stand as words (see words.py) or as the hexadecimal digits of their spelling.
 
     reset node SCHEME N ME EPOCH L K STALL RETENTION LEADER CERTIFICATION RETRY SKIP BUDGET FORWARD TRACK HANDOFFS => ok
+    reset node .. HANDOFFS AGAIN WINDOW => ok
+    reset node .. HANDOFFS AGAIN WINDOW ANSWERS => ok
     reset pair ..                 => ok      as `reset node ..`, over two disks
         SCHEME is plain or salted, of N members with the base `simplex`; ME the own index, - for none. Terms have L views,
         K of them optimistic; members take turns, a term each. Times are milliseconds: STALL of a term (- for none), LEADER,
         CERTIFICATION, RETRY, SKIP (- where no leader's silence counts). RETENTION views are kept below the last finalized
         one. BUDGET is how many terms may be skipped, - for the number of members. FORWARD is disabled, silent-voters or
         silent-leader. TRACK is 1 where votes are kept in full for good, HANDOFFS where a view may be built before the last
-        view of the term before it is decided. Payloads have 32 bytes; view 0 stands for 32 bytes 00
+        view of the term before it is decided. Payloads have 32 bytes; view 0 stands for 32 bytes 00. AGAIN is once, as where
+        nothing is said, or with-nullify: asks that nothing settled go again with a repeated nullify. WINDOW is how many views to
+        leave behind are asked for at once, - for all. ANSWERS is for how long a certificate isn't served to the same member again,
+        - where it is each time, as where nothing is said
     floor genesis K               => ok      for 32 bytes of value K from the next opening on
     floor FINALIZATION            => ok      or each opening brings this finalization, and view 0 has no payload
     found ARTIFACT , ARTIFACT ..  => ok      the disk holds these (- for none)
@@ -45,7 +50,7 @@ from .member import Disagreement, may_be_left, opening, read_record, rewriting, 
 from .record import bodies, first_refused, kept_record, spelled_record
 from .refusals import refusal_of
 from .scheme import SCHEMES
-from .setup import FORWARDS, MOST_OPTIMISTIC, Setup
+from .setup import AGAINS, FORWARDS, MOST_OPTIMISTIC, Setup
 from .values import Certificate, Certified, Report, Verdict, Vote
 from .voter import current, last_finalized
 
@@ -64,15 +69,18 @@ def maybe(word):
 def setup_of(text):
     """The setup that the words behind `reset` tell."""
     try:
-        node, scheme, n, me, epoch, *numbers, forward, track, handoffs = text.split()
+        said = text.split()
+        place = next((place for place, word in enumerate(said) if word in AGAINS), len(said))
+        again, window, answers = [*said[place:], *(AGAINS[0], "-", "-")[len(said) - place :]]
+        node, scheme, n, me, epoch, *numbers, forward, track, handoffs = said[:place]
         length, optimistic, stall, retention, leader, certification, retry, skip, budget = map(maybe, numbers)
         if node not in ("node", "pair") or forward not in FORWARDS:
             raise ValueError
         return Setup(
             SCHEMES[scheme](int(n)), maybe(me), int(epoch), length, optimistic, stall, retention, leader, certification, retry,
-            skip, budget, forward, track == "1", handoffs == "1",
+            skip, budget, forward, track == "1", handoffs == "1", goes_again=again == AGAINS[1], window=maybe(window), answers=maybe(answers),
         )
-    except (ValueError, KeyError) as trouble:
+    except (ValueError, KeyError, IndexError) as trouble:
         raise BadCase(f"no setup: {text}") from trouble
 
 
@@ -83,6 +91,8 @@ def reset_line(setup):
         setup.retention, setup.leader_timeout, setup.certification_timeout, setup.retry, setup.skip, setup.fixed_budget,
         setup.forward, int(setup.tracks), int(setup.handoffs),
     ]
+    if setup.goes_again or setup.window is not None or setup.answers is not None:
+        of += [AGAINS[setup.goes_again], setup.window, *([] if setup.answers is None else [setup.answers])]
     return "reset node " + " ".join("-" if it is None else str(it) for it in of)
 
 

@@ -7,6 +7,8 @@ from .positions import MOST, Terms
 # how many views of a term may be optimistic
 MOST_OPTIMISTIC = 1_000
 FORWARDS = ("disabled", "silent-voters", "silent-leader")
+# an ask that nothing settled goes once, or again with each repeated nullify
+AGAINS = ("once", "with-nullify")
 
 
 @dataclass(frozen=True)
@@ -30,6 +32,11 @@ class Setup:
     tracks: bool
     # whether a view may be built on the last view of the term before, while that isn't decided
     handoffs: bool
+    # whether an ask that nothing settled goes again with a repeated nullify, and how many views to leave behind are asked for at once
+    goes_again: bool = False
+    window: int | None = None
+    # how long one and the same certificate isn't served to the same member again; without it no time
+    answers: int | None = None
     # the payload of view 0; or the finalization that an opening brings in its place, and then view 0 has none
     genesis: bytes | None = bytes(32)
     floor: object = None

@@ -19,7 +19,7 @@ pub use files::second_path;
 use handle::Handle;
 pub use light::{Broken, Certified, Uncertified, certifies, finalized_in};
 pub use node::{Ending, Node, Views};
-pub use settings::{Forwarding, Settings, SettingsError, SettingsFault, Skips};
+pub use settings::{Forwarding, Repair, Settings, SettingsError, SettingsFault, Skips};
 
 /// What a call tells beside its status.
 #[repr(C)]

@@ -90,7 +90,7 @@ impl Node {
     ///
     /// As of [`Node::open_with`].
     pub fn open(record: &Path, member: u16, members: u16) -> Result<(Node, Reply), Error> {
-        Node::open_with(record, &Settings::new(member.into(), members.into()))
+        Node::open_with(record, &Settings::of_program(member.into(), members.into()))
     }
 
     /// The same, where what stands behind the last whole entry is cut, whatever it is, in place of [`Ending::Torn`]. That may take
@@ -100,7 +100,7 @@ impl Node {
     ///
     /// As of [`Node::open_with`].
     pub fn open_cutting(record: &Path, member: u16, members: u16) -> Result<(Node, Reply), Error> {
-        Node::open_cutting_with(record, &Settings::new(member.into(), members.into()))
+        Node::open_cutting_with(record, &Settings::of_program(member.into(), members.into()))
     }
 
     /// Opens the record at this path, or makes an empty one, at moment 0, as the member of these settings, and answers what is due
@@ -133,7 +133,7 @@ impl Node {
     ///
     /// As of [`Node::open_pair_with`].
     pub fn open_pair(record: &Path, member: u16, members: u16) -> Result<(Node, Reply), Error> {
-        Node::open_pair_with(record, &Settings::new(member.into(), members.into()))
+        Node::open_pair_with(record, &Settings::of_program(member.into(), members.into()))
     }
 
     /// The same, as [`Node::open_cutting`] cuts.
@@ -146,7 +146,7 @@ impl Node {
         member: u16,
         members: u16,
     ) -> Result<(Node, Reply), Error> {
-        Node::open_pair_cutting_with(record, &Settings::new(member.into(), members.into()))
+        Node::open_pair_cutting_with(record, &Settings::of_program(member.into(), members.into()))
     }
 
     /// Opens the record in two files, as [`Node::open_pair`], as the member of these settings. Both are looked at first: where one is no

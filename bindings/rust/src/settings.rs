@@ -4,12 +4,11 @@ use crate::Found;
 use crate::wire::Payload;
 use std::fmt;
 
-/// Which form of the numbers these bindings hand in, and how many bytes C's struct of that form has: beside the numbers it has two
-/// pointers, each with a length.
-const VERSION: u32 = 1;
-const SIZE: usize = size_of::<Numbers>() + 2 * (size_of::<*const u8>() + size_of::<usize>());
+/// Which form of the numbers these bindings hand in, and how many bytes it has.
+const VERSION: u32 = 2;
+const SIZE: usize = size_of::<Numbers>();
 
-/// How a member is set up, but for its base and its seed, as the library reads it.
+/// How a member is set up, but for its base and its seed, as the library reads it: where C has pointers to these it reads nothing.
 #[repr(C)]
 pub(crate) struct Numbers {
     size: usize,
@@ -31,6 +30,11 @@ pub(crate) struct Numbers {
     skip_timeout: u64,
     skip_budget: u64,
     genesis: Payload,
+    base: [usize; 2],
+    seed: [usize; 2],
+    repair_window: u64,
+    repair: u32,
+    unused: u32,
 }
 
 unsafe extern "C" {
@@ -67,6 +71,15 @@ pub enum Forwarding {
     SilentVoters,
     /// To the leader of the entered view, where its vote for it isn't known.
     SilentLeader,
+}
+
+/// Whether an ask for what others have goes again while nothing settled it.
+#[derive(Clone, Copy, Debug, PartialEq, Eq)]
+pub enum Repair {
+    /// It goes once.
+    Once,
+    /// It goes again with each vote to give a view up that is sent again.
+    WithNullify,
 }
 
 /// Why no node can be opened with settings: the first that applies.
@@ -162,7 +175,8 @@ impl SettingsFault {
     }
 }
 
-/// How a member is set up, which [`Settings::new`] begins with what the program `simplex node` has. Durations are milliseconds.
+/// How a member is set up, which [`Settings::new`] begins with what the program `simplex node` has, but that asks go again, for 1,024
+/// views at once. Durations are milliseconds.
 ///
 /// What must be alike at all members of a committee, and through all lives of a record, is set by [`Settings::epoch`],
 /// [`Settings::genesis`], [`Settings::base`], [`Settings::terms`], [`Settings::rotating`] and [`Settings::shuffled`]; the other calls set
@@ -184,12 +198,21 @@ pub struct Settings {
     retention: u64,
     skips: Skips,
     forwarding: Forwarding,
+    repair: Repair,
+    repair_window: u64,
     historical_votes: bool,
 }
 
 impl Settings {
-    /// Those of `member` of `members` by the program `simplex node`.
+    /// Those of `member` of `members` by the program `simplex node`, but that asks go again.
     pub fn new(member: u32, members: u32) -> Settings {
+        Settings::of_program(member, members)
+            .repair(Repair::WithNullify)
+            .repair_window(1_024)
+    }
+
+    /// Those of `member` of `members` by the program `simplex node`: each ask goes once, and all at once.
+    pub fn of_program(member: u32, members: u32) -> Settings {
         Settings {
             members,
             member,
@@ -209,6 +232,8 @@ impl Settings {
                 budget: None,
             },
             forwarding: Forwarding::Disabled,
+            repair: Repair::Once,
+            repair_window: 0,
             historical_votes: true,
         }
     }
@@ -293,6 +318,18 @@ impl Settings {
         self
     }
 
+    /// Whether an ask for what others have goes again while nothing settled it.
+    pub fn repair(mut self, repair: Repair) -> Settings {
+        self.repair = repair;
+        self
+    }
+
+    /// For how many views to leave behind others are asked at once, the lowest first; 0 for all.
+    pub fn repair_window(mut self, views: u64) -> Settings {
+        self.repair_window = views;
+        self
+    }
+
     /// Whether votes behind a certificate, and of views that were skipped, are kept.
     pub fn historical_votes(mut self, kept: bool) -> Settings {
         self.historical_votes = kept;
@@ -363,6 +400,11 @@ impl Settings {
             skip_timeout,
             skip_budget,
             genesis: self.genesis,
+            base: [0; 2],
+            seed: [0; 2],
+            repair_window: self.repair_window,
+            repair: self.repair as u32,
+            unused: 0,
         };
         (numbers, &self.base, self.seed.as_deref().unwrap_or(&[]))
     }

@@ -5,9 +5,9 @@ mod common;
 use common::committee::{Committee, place};
 use std::fs;
 use std::io::ErrorKind;
-use voumlis::wire::{Action, Channel, Event, Plan};
+use voumlis::wire::{Action, Channel, Event, Plan, Reply};
 use voumlis::{
-    Ending, Forwarding, Node, Record, Settings, SettingsError, SettingsFault, Skips, Views,
+    Ending, Forwarding, Node, Record, Repair, Settings, SettingsError, SettingsFault, Skips, Views,
     first_refused,
 };
 
@@ -73,6 +73,8 @@ fn each_fault_is_told_by_its_name() {
         .shuffled([7; 255])
         .skips(Skips::Disabled)
         .forwarding(Forwarding::SilentLeader)
+        .repair(Repair::Once)
+        .repair_window(u64::MAX)
         .historical_votes(false);
     assert_eq!(edges.check(), Ok(()));
     assert_eq!(good().terms(4, 1, 1_000).check(), Ok(()));
@@ -207,6 +209,82 @@ fn votes_are_sent_again_by_their_timeout() {
     let usual = sent_again("retry", &Settings::new(0, 4));
     let sooner = sent_again("sooner", &Settings::new(0, 4).retry_timeout(3_000));
     assert_eq!(usual - sooner, 2_000);
+}
+
+/// A nullification of view 4 of four members, of whom three gave up each view before it and had no proposal.
+fn nullification_ahead() -> Vec<u8> {
+    let open = |member: u32| {
+        let settings = Settings::new(member, 4).rotating();
+        Node::open_with(&place(&format!("ahead-{member}")), &settings).unwrap()
+    };
+    let mut others: Vec<(u32, Node)> = (1..4).map(|member| (member, open(member).0)).collect();
+    let sent = |reply: Reply, on: Channel| {
+        let actions = reply.actions.into_iter();
+        actions.filter_map(move |action| match action {
+            Action::Send { channel, bytes, .. } if channel == on => Some(bytes),
+            _ => None,
+        })
+    };
+    for moment in (1..=4).map(|view| 1_000 * view) {
+        let mut votes = Vec::new();
+        for (member, node) in &mut others {
+            let reply = node.step(&Event::Moment(moment)).unwrap();
+            votes.extend(sent(reply, Channel::Votes).map(|bytes| (*member, bytes)));
+        }
+        for (sender, vote) in votes {
+            for (member, node) in &mut others {
+                if *member == sender {
+                    continue;
+                }
+                let reply = node.step(&packet(sender, Channel::Votes, &vote)).unwrap();
+                let mut certificates = sent(reply, Channel::Certificates);
+                // A nullification of view 4 of epoch 0.
+                if let Some(found) = certificates.find(|bytes| bytes.starts_with(&[1, 0, 4])) {
+                    return found;
+                }
+            }
+        }
+    }
+    panic!("view 4 was not given up")
+}
+
+fn packet(sender: u32, channel: Channel, bytes: &[u8]) -> Event<'_> {
+    Event::Packet {
+        sender,
+        channel,
+        bytes,
+    }
+}
+
+#[test]
+fn what_nothing_settled_is_asked_for_again_where_that_is_set() {
+    let ahead = nullification_ahead();
+    // How many views are asked for behind it, and again with a vote that is sent again.
+    let asked = |name: &str, settings: Settings| {
+        let (mut node, _) = Node::open_with(&place(name), &settings.rotating()).unwrap();
+        let mut asks = |event: &Event| {
+            let reply = node.step(event).unwrap();
+            let is_ask = |action: &&Action| {
+                matches!(
+                    action,
+                    Action::Send {
+                        channel: Channel::Fetches,
+                        ..
+                    }
+                )
+            };
+            reply.actions.iter().filter(is_ask).count()
+        };
+        let first = asks(&packet(1, Channel::Certificates, &ahead));
+        assert_eq!(asks(&Event::Moment(1_000)), 0);
+        (first, asks(&Event::Moment(6_000)))
+    };
+    assert_eq!(asked("asks", Settings::new(0, 4)), (3, 3));
+    assert_eq!(asked("asks-once", Settings::of_program(0, 4)), (3, 0));
+    let once = Settings::new(0, 4).repair(Repair::Once);
+    assert_eq!(asked("asks-once-too", once), (3, 0));
+    let two = Settings::new(0, 4).repair_window(2);
+    assert_eq!(asked("asks-for-two", two), (2, 2));
 }
 
 #[test]

@@ -23,7 +23,7 @@ use Rattle.cli_toml.specs.declared.key.Key.{Key}
 use Rattle.cli_toml.specs.declared.key.Key.TheVariants as key
 use Rattle.cli_toml.specs.declared.reading.MemberFile.{MemberFile}
 use Rattle.cli_toml.specs.Keys.{key_name}
-use Rattle.cli_toml.specs.Saying.{forward_word}
+use Rattle.cli_toml.specs.Saying.{again_word, forward_word}
 
 -- the newline that ends each line
 abbrev pub newline : List ℕ
@@ -91,8 +91,10 @@ conduct_lines c =
     ++ (number_line key.Retention c.view_retention
     ++ (skip_lines c.skip
     ++ (words_line key.Forwarding (forward_word c.forward)
+    ++ (words_line key.Repair (again_word c.repair)
+    ++ (number_line key.RepairWindow c.repair_window
     ++ (truth_line key.HistoricalVotes c.track_historical_votes
-    ++ number_line key.RewriteViews c.rewrite_views))))))
+    ++ number_line key.RewriteViews c.rewrite_views))))))))
 
 -- the path of the record, if it is named
 unfoldable pub record_line : MemberFile → List ℕ
@@ -142,6 +144,7 @@ range_words key.Record = codes "no text"
 range_words key.Skips = codes "neither true nor false"
 range_words key.HistoricalVotes = codes "neither true nor false"
 range_words key.Forwarding = codes "none of disabled, silent-voters and silent-leader"
+range_words key.Repair = codes "neither once nor with-nullify"
 range_words key.Members = codes "no whole number from 0 to 4294967295"
 range_words key.Member = codes "no whole number from 0 to 4294967295"
 range_words key.TermLength = codes "no whole number from 0 to 4294967295"

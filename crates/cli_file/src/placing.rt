@@ -137,6 +137,7 @@ fn range_of(key: Key) -> &'static str
         Key::Base | Key::Record => "no text",
         Key::Skips | Key::HistoricalVotes => "neither true nor false",
         Key::Forwarding => "none of disabled, silent-voters and silent-leader",
+        Key::Repair => "neither once nor with-nullify",
         Key::Members | Key::Member | Key::TermLength => "no whole number from 0 to 4294967295",
         _ => "no whole number from 0 to 9223372036854775807",
     }

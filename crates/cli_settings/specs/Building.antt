@@ -1,5 +1,5 @@
 -- What a node is made of by its settings.
-use Rattle.std.specs.Prelude.{ℕ, zero, suc, List, Option, option_map}
+use Rattle.std.specs.Prelude.{ℕ, zero, suc, List, Option, None, Some, option_map}
 use Rattle.types_core.specs.declared.attestation.Attestation.{Attestation}
 use Rattle.types_terms.specs.Terms.{Timing, rotating, stable}
 use Rattle.simplex_types.specs.Plain as plain
@@ -9,6 +9,11 @@ use Rattle.voter_rules.specs.declared.floor.Floor.TheVariants as floor
 use Rattle.cli_settings.specs.declared.setting.Committee.{Committee}
 use Rattle.cli_settings.specs.declared.setting.Settings.{Settings}
 use Rattle.cli_settings.specs.declared.setting.Turns.{Turns}
+
+-- for how many views others are asked at once, where that is bounded: with 0 it isn't
+abbrev pub window_of : ℕ → Option ℕ
+window_of zero = None
+window_of (suc more) = Some (suc more)
 
 -- what a node is opened with
 abbrev pub config_of : Settings → Config (Floor plain.Committee (List ℕ) ℕ (List ℕ) (List (Attestation (List ℕ))))
@@ -21,6 +26,7 @@ config_of s = record {
   view_retention = s.conduct.view_retention;
   skip = s.conduct.skip;
   forward = s.conduct.forward;
+  repair = record { again = s.conduct.repair; window = window_of s.conduct.repair_window };
   track_historical_votes = s.conduct.track_historical_votes;
 }
 

@@ -2,19 +2,19 @@
 
 ghost use Rattle.std.specs.Prelude.{◌≡◌, ◌<◌, Some, IfOk};
 ghost use Rattle.std.specs.Option.{ForSome};
-ghost use Rattle.cli_settings.specs.Building.{config_of, seed_of, timing_of};
+ghost use Rattle.cli_settings.specs.Building.{config_of, seed_of, timing_of, window_of};
 ghost use Rattle.cli_settings.specs.Checking.{HasMembers, HasTurns, IsGood};
 ghost use Rattle.types_terms.specs.Shuffle.{IsOrderOf};
 ghost use Rattle.types_terms.specs.Terms.{rotating};
 
-use crate::setting::{Committee, Settings, Turns};
+use crate::setting::{Committee, Conduct, Settings, Turns};
 use simplex_types::PlainScheme;
 use std::alloc::{AllocError, Global};
 use std::rc::Rc;
 use types_core::{Participant, Sha256Digest, TermLength, ViewDelta};
 use types_terms::elector::{Config as Building, Elector, RoundRobin, RoundRobinElector};
 use voter_rules::Floor;
-use voter_rules::config::Config;
+use voter_rules::config::{Config, RepairPolicy};
 
 impl Turns {
     /// How a rotation goes with these terms.
@@ -76,6 +76,19 @@ impl Committee {
     }
 }
 
+impl Conduct {
+    /// For how many views to leave behind others are asked at once, where that is bounded.
+    fn window(&self) -> Option<u64>
+        ensures { result ≡ window_of self.now.repair_window }
+    {
+        if self.repair_window == 0 {
+            None
+        } else {
+            Some(self.repair_window)
+        }
+    }
+}
+
 impl Settings {
     /// What a node is opened with.
     pub fn config(&self) -> Config<Floor<PlainScheme, Sha256Digest>>
@@ -91,6 +104,10 @@ impl Settings {
             view_retention: conduct.view_retention,
             skip: conduct.skip,
             forward: conduct.forward,
+            repair: RepairPolicy {
+                again: conduct.repair,
+                window: conduct.window(),
+            },
             track_historical_votes: conduct.track_historical_votes,
         }
     }

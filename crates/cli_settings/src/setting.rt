@@ -1,11 +1,11 @@
 //! How a member is set up.
 
 ghost use Rattle.std.specs.Prelude.{◌≡◌, None, IfOk, codes};
-ghost use Rattle.cli_settings.specs.Program.{program_conduct, program_turns, zeros};
+ghost use Rattle.cli_settings.specs.Program.{program_conduct, program_turns, usual_conduct, zeros};
 
 use std::alloc::{AllocError, Global};
 use types_core::{Epoch, Sha256Digest, ViewDelta};
-use voter_rules::config::{ForwardPolicy, SkipBudget, SkipPolicy};
+use voter_rules::config::{Again, ForwardPolicy, SkipBudget, SkipPolicy};
 
 /// Who leads, for how long, and how far ahead of what is certified.
 #[derive(Clone, Copy, Debug)]
@@ -51,6 +51,10 @@ pub struct Conduct {
     pub skip: SkipPolicy,
     /// To whom payloads are forwarded.
     pub forward: ForwardPolicy,
+    /// Whether an ask that nothing settled goes again.
+    pub repair: Again,
+    /// For how many views to leave behind other members are asked at once. With 0 for all.
+    pub repair_window: u64,
     /// Whether each vote is kept until its view is dropped, also behind a certificate and of views that were skipped.
     pub track_historical_votes: bool,
     /// How many views are finalized between two rewrites of a record on two disks. With 0 at the end of the input alone.
@@ -96,8 +100,21 @@ impl Conduct {
                 budget: SkipBudget::Participants,
             },
             forward: ForwardPolicy::Disabled,
+            repair: Again::Once,
+            repair_window: 0,
             track_historical_votes: true,
             rewrite_views: 0,
+        }
+    }
+
+    /// That of each other program, where nothing else is set: the same, but that asks go again, for so many views at once.
+    pub const fn usual() -> Conduct
+        ensures { result ≡ usual_conduct }
+    {
+        Conduct {
+            repair: Again::WithNullify,
+            repair_window: 1_024,
+            ..Conduct::of_program()
         }
     }
 }

@@ -4,6 +4,7 @@ use Rattle.hex.specs.Hex.{decode_of, decode_sized}
 use Rattle.toml.specs.Data.{Data, Members, no_members, member, string, boolean}
 use Rattle.toml.specs.Errors.{span_start}
 use Rattle.toml.specs.Parse.{parse_document}
+use Rattle.voter_rules.specs.declared.config.Again.{Again}
 use Rattle.voter_rules.specs.declared.config.ForwardPolicy.{ForwardPolicy}
 use Rattle.cli_settings.specs.Checking.{IsFirst}
 use Rattle.cli_toml.specs.declared.fault.FileFault.{FileFault}
@@ -14,7 +15,7 @@ use Rattle.cli_toml.specs.declared.key.Key.{Key}
 use Rattle.cli_toml.specs.declared.key.Key.TheVariants as key
 use Rattle.cli_toml.specs.declared.reading.MemberFile.{MemberFile}
 use Rattle.cli_toml.specs.Keys.{IsKey}
-use Rattle.cli_toml.specs.Saying.{Says, forward_word, under, whole}
+use Rattle.cli_toml.specs.Saying.{Says, again_word, forward_word, under, whole}
 
 -- each name of a table is a key's
 abbrev pub AreKnown : Members → Type 0
@@ -56,6 +57,10 @@ AreDigitsOf n d = (s : List ℕ) × (bytes : List ℕ) × (d ≡ string s) × (d
 abbrev pub IsPolicy : Data → Type 0
 IsPolicy d = (policy : ForwardPolicy) × (d ≡ string (forward_word policy))
 
+-- the word of whether asks go again
+abbrev pub IsAgain : Data → Type 0
+IsAgain d = (policy : Again) × (d ≡ string (again_word policy))
+
 -- what a key can have
 abbrev pub Fits : Key → Data → Type 0
 Fits key.Genesis = AreDigitsOf 32
@@ -67,6 +72,7 @@ Fits key.Member = IsCount
 Fits key.Record = IsText
 Fits key.Skips = IsTruth
 Fits key.Forwarding = IsPolicy
+Fits key.Repair = IsAgain
 Fits key.HistoricalVotes = IsTruth
 Fits _ = IsWhole
 

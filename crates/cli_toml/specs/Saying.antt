@@ -2,6 +2,8 @@
 use Rattle.std.specs.Prelude.{◌≡◌, ◌⊎◌, ℕ, pos, List, Bool, true, false, codes, Option, None, Some, Ok, option_map, string_bytes}
 use Rattle.hex.specs.Hex.{decode_of, decode_sized}
 use Rattle.toml.specs.Data.{Data, Members, string, integer, boolean, get_member}
+use Rattle.voter_rules.specs.declared.config.Again.{Again}
+use Rattle.voter_rules.specs.declared.config.Again.TheVariants as again
 use Rattle.voter_rules.specs.declared.config.ForwardPolicy.{ForwardPolicy}
 use Rattle.voter_rules.specs.declared.config.ForwardPolicy.TheVariants as forward
 use Rattle.voter_rules.specs.declared.config.SkipBudget.TheVariants as budget
@@ -11,7 +13,7 @@ use Rattle.cli_settings.specs.declared.setting.Committee.{Committee}
 use Rattle.cli_settings.specs.declared.setting.Conduct.{Conduct}
 use Rattle.cli_settings.specs.declared.setting.Turns.{Turns}
 use Rattle.cli_settings.specs.Building.{seed_of}
-use Rattle.cli_settings.specs.Program.{program_conduct, program_turns, zeros}
+use Rattle.cli_settings.specs.Program.{program_conduct, program_turns, usual_conduct, zeros}
 use Rattle.cli_toml.specs.declared.key.Key.{Key}
 use Rattle.cli_toml.specs.declared.key.Key.TheVariants as key
 use Rattle.cli_toml.specs.declared.reading.MemberFile.{MemberFile}
@@ -34,6 +36,11 @@ abbrev pub forward_word : ForwardPolicy → List ℕ
 forward_word forward.Disabled = codes "disabled"
 forward_word forward.SilentVoters = codes "silent-voters"
 forward_word forward.SilentLeader = codes "silent-leader"
+
+-- the word of whether asks go again
+abbrev pub again_word : Again → List ℕ
+again_word again.Once = codes "once"
+again_word again.WithNullify = codes "with-nullify"
 
 -- whether views may be given up early: not, or after a leader's silence, for as many terms as there are members or for so many
 abbrev pub policy_of : Bool → ℕ → Option ℕ → SkipPolicy
@@ -65,6 +72,8 @@ module _ (t : Members) where
     pub view_retention : Gives whole program_conduct.view_retention (under key.Retention t) c.view_retention
     pub skip : SaysSkip c.skip
     pub forward : Gives (λ policy. string (forward_word policy)) forward.Disabled (under key.Forwarding t) c.forward
+    pub repair : Gives (λ policy. string (again_word policy)) usual_conduct.repair (under key.Repair t) c.repair
+    pub repair_window : Gives whole usual_conduct.repair_window (under key.RepairWindow t) c.repair_window
     pub track_historical_votes : Gives boolean true (under key.HistoricalVotes t) c.track_historical_votes
     pub rewrite_views : Gives whole program_conduct.rewrite_views (under key.RewriteViews t) c.rewrite_views
 

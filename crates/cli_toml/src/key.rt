@@ -43,6 +43,10 @@ pub enum Key {
     SkipBudget,
     /// To whom payloads are forwarded.
     Forwarding,
+    /// Whether an ask that nothing settled goes again.
+    Repair,
+    /// For how many views to leave behind others are asked at once.
+    RepairWindow,
     /// Whether each vote is kept until its view is dropped.
     HistoricalVotes,
     /// How many views are finalized between two rewrites of the record.
@@ -73,6 +77,8 @@ impl Key {
             Key::SkipTimeout => "skip-timeout",
             Key::SkipBudget => "skip-budget",
             Key::Forwarding => "forwarding",
+            Key::Repair => "repair",
+            Key::RepairWindow => "repair-window",
             Key::HistoricalVotes => "historical-votes",
             Key::RewriteViews => "rewrite-views",
         }
@@ -102,6 +108,8 @@ impl Key {
             "skip-timeout" => Some(Key::SkipTimeout),
             "skip-budget" => Some(Key::SkipBudget),
             "forwarding" => Some(Key::Forwarding),
+            "repair" => Some(Key::Repair),
+            "repair-window" => Some(Key::RepairWindow),
             "historical-votes" => Some(Key::HistoricalVotes),
             "rewrite-views" => Some(Key::RewriteViews),
             _ => None,

@@ -4,7 +4,8 @@ ghost use Rattle.std.specs.Prelude.{◌≡◌, ◌⊎◌, IsUtf8, None, Some, If
 ghost use Rattle.cli_settings.specs.Checking.{IsGood};
 ghost use Rattle.cli_toml.specs.Keys.{IsKey};
 ghost use Rattle.cli_toml.specs.Refusing.{AreKnown, IsFault, IsNoToml, IsRefused, IsStranger, IsTableFault};
-ghost use Rattle.cli_toml.specs.Saying.{Gives, Says, SaysCommittee, SaysConduct, SaysSkip, SaysTurns, forward_word, under, whole};
+ghost use Rattle.cli_settings.specs.Program.{usual_conduct};
+ghost use Rattle.cli_toml.specs.Saying.{Gives, Says, SaysCommittee, SaysConduct, SaysSkip, SaysTurns, again_word, forward_word, under, whole};
 ghost use Rattle.cli_toml.specs.declared.fault.FileFault.TheVariants as file;
 ghost use Rattle.cli_toml.specs.declared.key.Key.TheVariants as key;
 ghost use Rattle.toml.specs.Data.{Members, string};
@@ -21,7 +22,7 @@ use cli_settings::{Committee, Conduct, Settings, Turns};
 use std::alloc::Global;
 use toml::Table;
 use types_core::{Epoch, Sha256Digest, ViewDelta};
-use voter_rules::config::{ForwardPolicy, SkipBudget, SkipPolicy};
+use voter_rules::config::{Again, ForwardPolicy, SkipBudget, SkipPolicy};
 
 /// What a file of settings says.
 #[derive(Drop)]
@@ -32,8 +33,8 @@ pub struct MemberFile {
     pub record: Option<String>,
 }
 
-/// What the text says, in TOML. A key that isn't there has its default, which is the program's setting; the number of members
-/// and the member's index have none.
+/// What the text says, in TOML. A key that isn't there has its default, which is the setting of `simplex node`, but that asks go
+/// again; the number of members and the member's index have none.
 ///
 /// # Errors
 ///
@@ -181,7 +182,7 @@ fn conduct_in(table: &Table) -> Result<Conduct, ValueFault>
     ensures said { IfOk result (SaysConduct (table_view table.now)) }
     ensures fault { IfErr result (IsFault (table_view table.now)) }
 {
-    let usual = Conduct::of_program();
+    let usual = Conduct::usual();
     let retention = usual.view_retention.get();
     Ok(Conduct {
         leader_timeout: number_or(table, Key::LeaderTimeout, usual.leader_timeout)?,
@@ -194,6 +195,8 @@ fn conduct_in(table: &Table) -> Result<Conduct, ValueFault>
         view_retention: ViewDelta::new(number_or(table, Key::Retention, retention)?),
         skip: skip_in(table)?,
         forward: forward_in(table)?,
+        repair: repair_in(table)?,
+        repair_window: number_or(table, Key::RepairWindow, usual.repair_window)?,
         track_historical_votes: truth_or(
             table,
             Key::HistoricalVotes,
@@ -232,6 +235,20 @@ fn forward_in(table: &Table) -> Result<ForwardPolicy, ValueFault>
         Ok(Some("silent-leader")) => Ok(ForwardPolicy::SilentLeader),
         Ok(Some(_)) => Err(ValueFault::Unfit(Key::Forwarding)),
         Ok(None) => Ok(ForwardPolicy::Disabled),
+        Err(fault) => Err(fault),
+    }
+}
+
+/// Whether an ask that nothing settled goes again.
+fn repair_in(table: &Table) -> Result<Again, ValueFault>
+    ensures policy { IfOk result (Gives (λ policy. string (again_word policy)) usual_conduct.repair (under key.Repair (table_view table.now))) }
+    ensures fault { IfErr result (IsFault (table_view table.now)) }
+{
+    match text(table, Key::Repair) {
+        Ok(Some("once")) => Ok(Again::Once),
+        Ok(Some("with-nullify")) => Ok(Again::WithNullify),
+        Ok(Some(_)) => Err(ValueFault::Unfit(Key::Repair)),
+        Ok(None) => Ok(Again::WithNullify),
         Err(fault) => Err(fault),
     }
 }

@@ -2,7 +2,7 @@
 
 use simplex_messages::Notarize;
 use simplex_rules::elector::{Config as Building, RoundRobin, RoundRobinElector};
-use simplex_state::{Config, ForwardPolicy, SkipBudget, SkipPolicy, State, Verify};
+use simplex_state::{Config, ForwardPolicy, RepairPolicy, SkipBudget, SkipPolicy, State, Verify};
 use simplex_types::{Epoch, PlainScheme, Proposal, Scheme, Sha256Digest, ViewDelta, Viewable};
 use std::alloc::{AllocError, Global};
 use std::rc::Rc;
@@ -35,6 +35,7 @@ pub(crate) fn begun(
             budget: SkipBudget::Participants,
         },
         forward: ForwardPolicy::Disabled,
+        repair: RepairPolicy::usual(),
         track_historical_votes: false,
     };
     let mut voter = State::new(alloc, scheme, elector, &config)?;

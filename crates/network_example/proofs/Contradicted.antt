@@ -250,7 +250,7 @@ module _ {S D P G C : Type 0} (g : Ghosts S D P G C) (f : Formats S D P G C) (x 
     }
 
     pub nothing-due : NoneDue g f s h
-    nothing-due = still g f s refl refl h is-still
+    nothing-due = still g f s refl refl refl h is-still
 
   settles-early : (h : History S D P G C) → repair_of f h ≡ Replayed ∷ [] → (view : ℕ) → IsOutstanding 1 (repair_of f h) view → ⊥
   settles-early h is view out = go (subst (λ (r : List Item). IsOutstanding 1 r view) is out)

@@ -253,7 +253,7 @@ module _ {S D P G C : Type 0} (g : Ghosts S D P G C) (f : Formats S D P G C) (x 
         (λ view far. let down = stage-far s 4 view far h of_near in not-up h view (λ up. both_ways (is_up (stage s h view)) (ap is_up down) up) (λ is. apart (sym down ∙ is)))
 
     nothing-due : NoneDue g f s h
-    nothing-due = none-due g f s refl refl refl h (record {
+    nothing-due = none-due g f s refl refl refl refl h (record {
       led = leads-alone s.voter refl (λ view c. refl) 4 (voter_of s h) near;
       voted = λ view. (all-finished view).voted;
       ended = λ view. (all-finished view).ended;

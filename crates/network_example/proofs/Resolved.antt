@@ -1,6 +1,6 @@
 -- A history of a member that leads alone, at which nothing is due: by what is known of its views.
-use Rattle.std.proofs.Common.{◌≡◌, ◌≢◌, ⊎_elim, ℕ, ◌<◌, Bool, true, false, Option, Some, None, sym, ◌∙◌, ap}
-use Rattle.std.specs.Prelude.{is_some, option_map}
+use Rattle.std.proofs.Common.{◌≡◌, ◌≢◌, inr, ⊎_elim, ℕ, ◌<◌, Bool, true, false, Option, Some, None, sym, ◌∙◌, ap, subst}
+use Rattle.std.specs.Prelude.{◌&&◌, Contains, if◌then◌else◌, is_some, option_map}
 use Rattle.std.proofs.lemmas.Bool.{both_ways}
 use Rattle.types_core.specs.declared.context.Context.{Context}
 use Rattle.types_core.specs.declared.proposal.Proposal.{Proposal}
@@ -16,11 +16,14 @@ use Rattle.voter_rules.specs.GivingUp.{NullifyIsDue}
 use Rattle.voter_rules.specs.Requests.{BuildIsDue, VerdictIsOpen, WaitsForParent}
 use Rattle.voter_laws.specs.Missing.{IsMissing}
 use Rattle.batcher_verifier.specs.History.{forwardable, leader_of, next_kind}
+use Rattle.simplex_resolver.specs.declared.ask.Ask.{Ask}
 use Rattle.simplex_resolver.specs.declared.ask.Kind as repair
 use Rattle.simplex_resolver.specs.declared.ask.Kind.TheVariants as repair_kind
 use Rattle.simplex_resolver.specs.Outstanding.{IsOutstanding}
 use Rattle.simplex_member.specs.Allowed.{HasReason, IsGivenBack}
-use Rattle.simplex_member.specs.Asked.{build_at}
+use Rattle.voter_rules.specs.declared.config.Again.{Again}
+use Rattle.voter_rules.specs.declared.config.Again.TheVariants as again
+use Rattle.simplex_member.specs.Asked.{IsPending, IsSent, asks_now, asks_of, build_at, goes_again, was_repeated}
 use Rattle.simplex_member.specs.Layers.{Collected, IsUp, current_of, known_of, latest, repair_of, stage, voter_of, votes_of, votes_setup}
 use Rattle.simplex_member.specs.Member.{NoneDue}
 use Rattle.simplex_member.specs.Packet.{Formats}
@@ -54,7 +57,11 @@ module _ {S D P G C : Type 0} (g : Ghosts S D P G C) (f : Formats S D P G C) (s 
     pub known : (view : ℕ) → IsUp (stage s h view) → leader_of (votes_of s h view) ≢ None
     pub unforwarded : (view : ℕ) → IsUp (stage s h view) → forwardable (votes_of s h view) s.me ≡ None
 
-  module _ (own : s.voter.me ≡ Some 0) (me : s.me ≡ 0) (patient : s.silence ≡ None) (h : History S D P G C) (q : IsResolved h) where
+  module _ (own : s.voter.me ≡ Some 0) (me : s.me ≡ 0) (patient : s.silence ≡ None) (once : s.repair.again ≡ again.Once) (h : History S D P G C) (q : IsResolved h) where
+    -- what was asked goes out no more
+    none-again : (view : ℕ) (ask : Ask) (to : Option ℕ) → IsPending h view ask to → (IsSent f s h view ask to → ⊥) → ⊥
+    none-again view ask to pending first = first (inr (subst (λ (q : Again). Contains (if goes_again q && was_repeated h then asks_now h else asks_of h) (record { view = view; ask = ask; to = to })) (sym once) pending.1))
+
     -- nobody waits for another member's parent
     none-waits : (view : ℕ) (p : Proposal D) → WaitsForParent (member_of s) (known_of s h) view p → ⊥
     none-waits view p waits = ⊎_elim
@@ -94,7 +101,11 @@ module _ {S D P G C : Type 0} (g : Ghosts S D P G C) (f : Formats S D P G C) (s 
         none_behind = λ number handoff context is behind. (q.stands number handoff context is).1 behind;
       };
       asks = record {
-        no_ask = λ view ask due. ⊎_elim (λ back. q.settled view back.1) (λ wanted. none-opens wanted.1.0 wanted.1.1.waits.proposal wanted.1.1.waits.opens) due.sought;
+        no_ask = λ view ask due. ⊎_elim
+            (λ sought. ⊎_elim (λ back. q.settled view back.1) (λ wanted. none-opens wanted.1.0 wanted.1.1.waits.proposal wanted.1.1.waits.opens) sought)
+            (λ pending. none-again view ask None pending due.first)
+            due.sought;
+        none_again = λ view ask target pending due. none-again view ask (Some target) pending due.first;
         none_put_off = λ view required due. none-opens view due.waits.proposal due.waits.opens;
         none_missing = λ left view u kind missing. nothing-missing view u kind missing;
       };

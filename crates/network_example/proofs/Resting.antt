@@ -149,7 +149,7 @@ module _ {S D P G C : Type 0} (g : Ghosts S D P G C) (f : Formats S D P G C) (ow
     }
 
     pub none-due : NoneDue g f s h
-    none-due = still g f s refl refl h is-still
+    none-due = still g f s refl refl refl h is-still
 
   module _ (signed : ℕ → G) (size : g.size (own i) ≡ 4) where
     -- the opening of an empty record; that of one with the nullify; and how that is repeated

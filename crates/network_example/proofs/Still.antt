@@ -1,7 +1,7 @@
 -- A history at which nothing is due, by what is known of its views: nothing is held from the current view on, nothing notarized or found good, and this
 -- member leads none.
-use Rattle.std.proofs.Common.{◌≡◌, ◌≢◌, ⊎_elim, ℕ, ◌≤◌, true, Option, Some, None, refl, sym, ◌∙◌, ap}
-use Rattle.std.specs.Prelude.{is_some, option_map}
+use Rattle.std.proofs.Common.{◌≡◌, ◌≢◌, inr, ⊎_elim, ℕ, ◌≤◌, true, Option, Some, None, refl, sym, ◌∙◌, ap, subst}
+use Rattle.std.specs.Prelude.{◌&&◌, Contains, if◌then◌else◌, is_some, option_map}
 use Rattle.std.proofs.lemmas.Bool.{both_ways}
 use Rattle.types_core.specs.declared.proposal.Proposal.{Proposal}
 use Rattle.types_core.specs.declared.scheme.Scheme.{Ghosts}
@@ -17,11 +17,14 @@ use Rattle.voter_rules.specs.GivingUp.{NullifyIsDue}
 use Rattle.voter_laws.specs.Missing.{IsMissing}
 use Rattle.batcher_verifier.specs.History.{forwardable, leader_of, next_kind}
 use Rattle.simplex_batcher.specs.Queries.{has_nullify}
+use Rattle.simplex_resolver.specs.declared.ask.Ask.{Ask}
 use Rattle.simplex_resolver.specs.declared.ask.Kind as repair
 use Rattle.simplex_resolver.specs.declared.ask.Kind.TheVariants as repair_kind
 use Rattle.simplex_resolver.specs.Outstanding.{IsOutstanding}
 use Rattle.simplex_member.specs.Allowed.{HasReason, RetryIsKnown}
-use Rattle.simplex_member.specs.Asked.{build_at}
+use Rattle.voter_rules.specs.declared.config.Again.{Again}
+use Rattle.voter_rules.specs.declared.config.Again.TheVariants as again
+use Rattle.simplex_member.specs.Asked.{IsPending, IsSent, asks_now, asks_of, build_at, goes_again, was_repeated}
 use Rattle.simplex_member.specs.Layers.{current_of, known_of, latest, repair_of, voter_of, votes_of, votes_setup}
 use Rattle.simplex_member.specs.Member.{NoneDue}
 use Rattle.simplex_member.specs.Packet.{Formats}
@@ -47,7 +50,11 @@ module _ {S D P G C : Type 0} (g : Ghosts S D P G C) (f : Formats S D P G C) (s 
     pub unasked : (number : ℕ) → build_at h number ≡ None
     pub settled : (view : ℕ) → IsOutstanding s.voter.length (repair_of f h) view → ⊥
 
-  module _ (own : s.voter.me ≡ Some s.me) (patient : s.silence ≡ None) (h : History S D P G C) (q : IsStill h) where
+  module _ (own : s.voter.me ≡ Some s.me) (patient : s.silence ≡ None) (once : s.repair.again ≡ again.Once) (h : History S D P G C) (q : IsStill h) where
+    -- what was asked goes out no more
+    none-again : (view : ℕ) (ask : Ask) (to : Option ℕ) → IsPending h view ask to → (IsSent f s h view ask to → ⊥) → ⊥
+    none-again view ask to pending first = first (inr (subst (λ (q : Again). Contains (if goes_again q && was_repeated h then asks_now h else asks_of h) (record { view = view; ask = ask; to = to })) (sym once) pending.1))
+
     none-held : (view : ℕ) → current_of s h ≤ view → (p : Proposal D) → held_at (member_of s) (known_of s h) view ≡ Some p → ⊥
     none-held view from p e = none-some p (sym (q.unheld view from) ∙ e)
 
@@ -82,7 +89,11 @@ module _ {S D P G C : Type 0} (g : Ghosts S D P G C) (f : Formats S D P G C) (s 
         none_behind = λ number handoff context is behind. none-some (handoff, context) (sym (q.unasked number) ∙ is);
       };
       asks = record {
-        no_ask = λ view ask due. ⊎_elim (λ back. q.settled view back.1) (λ wanted. none-notarized wanted.1.0 wanted.1.1.waits.proposal wanted.1.1.waits.opens.notarized) due.sought;
+        no_ask = λ view ask due. ⊎_elim
+            (λ sought. ⊎_elim (λ back. q.settled view back.1) (λ wanted. none-notarized wanted.1.0 wanted.1.1.waits.proposal wanted.1.1.waits.opens.notarized) sought)
+            (λ pending. none-again view ask None pending due.first)
+            due.sought;
+        none_again = λ view ask target pending due. none-again view ask (Some target) pending due.first;
         none_put_off = λ view required due. none-notarized view due.waits.proposal due.waits.opens.notarized;
         none_missing = λ left view u kind missing. nothing-missing view u kind missing;
       };

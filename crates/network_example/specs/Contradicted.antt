@@ -20,6 +20,7 @@ use Rattle.voter_rules.specs.declared.config.ForwardPolicy.TheVariants as policy
 use Rattle.simplex_rules.specs.Accountability.{IsContradicted, NamesAtLeast}
 use Rattle.simplex_rules.specs.Audit.{IsVerdict}
 use Rattle.simplex_record.specs.World.{World, IsAlike, IsCorrect}
+use Rattle.voter_rules.specs.declared.config.Again.TheVariants as again
 use Rattle.simplex_member.specs.declared.event.Channel.TheVariants as channel
 use Rattle.simplex_member.specs.declared.event.Event.{Event}
 use Rattle.simplex_member.specs.declared.event.Event.TheVariants as event
@@ -69,6 +70,7 @@ module _ {S D C : Type 0} where
     silence = None;
     forward = policy.Disabled;
     tracks = false;
+    repair = record { again = again.Once; window = None };
   }
 
   -- the proposal of the round

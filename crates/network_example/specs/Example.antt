@@ -13,6 +13,7 @@ use Rattle.simplex_messages.specs.declared.vote.Vote.TheVariants as vote
 use Rattle.types_terms.specs.declared.elector.Mode.TheVariants.{Scheduled}
 use Rattle.voter_rules.specs.declared.config.ForwardPolicy.TheVariants as policy
 use Rattle.simplex_record.specs.World.{World, IsAlike, IsCorrect}
+use Rattle.voter_rules.specs.declared.config.Again.TheVariants as again
 use Rattle.simplex_member.specs.declared.event.Channel.{Channel}
 use Rattle.simplex_member.specs.declared.event.Channel.TheVariants as channel
 use Rattle.simplex_member.specs.declared.event.Event.{Event}
@@ -65,6 +66,7 @@ module _ {S D C : Type 0} where
     silence = None;
     forward = policy.Disabled;
     tracks = false;
+    repair = record { again = again.Once; window = None };
   }
 
 module _ {S D P G C : Type 0} where

@@ -21,6 +21,7 @@ use Rattle.types_terms.specs.declared.kind.Kind.TheVariants as kind
 use Rattle.voter_rules.specs.declared.config.ForwardPolicy.TheVariants as policy
 use Rattle.batcher_verifier.specs.declared.batch.Batch.{Batch}
 use Rattle.simplex_record.specs.World.{World, IsAlike}
+use Rattle.voter_rules.specs.declared.config.Again.TheVariants as again
 use Rattle.simplex_member.specs.declared.event.Event.TheVariants as event
 use Rattle.simplex_member.specs.Deeds.{Finalizes}
 use Rattle.simplex_member.specs.Laws.{DoAttestAlike}
@@ -69,6 +70,7 @@ module _ {S D C : Type 0} where
     silence = None;
     forward = policy.Disabled;
     tracks = false;
+    repair = record { again = again.Once; window = None };
   }
 
 module _ {S D P G C : Type 0} (g : Ghosts S D P G C) (x : Lone S D G C) where

@@ -18,5 +18,6 @@ module _ {S D C : Type 0} where
     pub owner_is : settings.owner ≡ owner_of s
     pub forward_is : settings.forward ≡ s.forward
     pub silence_is : settings.silence ≡ s.silence
+    pub repair_is : settings.repair ≡ s.repair
     pub longest_is : settings.longest ≡ longest_timeout s
     pub ends : EndsActs s

@@ -3,7 +3,7 @@
 use simplex_record::Owner;
 use std::alloc::Global;
 use std::rc::Rc;
-use voter_rules::config::ForwardPolicy;
+use voter_rules::config::{ForwardPolicy, RepairPolicy};
 
 /// What stays the same through an opening of a node.
 #[derive(Drop)]
@@ -18,6 +18,8 @@ pub struct Settings<S> {
     pub forward: ForwardPolicy,
     /// For how long a leader may be silent, in milliseconds, where views are given up for that.
     pub silence: Option<u64>,
+    /// How the member asks for what it lacks.
+    pub repair: RepairPolicy,
     /// The longest of all times, in milliseconds: a moment is told only where each deadline that is counted
     /// from it has a number.
     pub longest: u64,

@@ -49,6 +49,7 @@ use Rattle.journal_books.specs.BooksLaws.{book_weaker}
 use Rattle.node_record.specs.declared.ledger.Ledger.{Ledger}
 use Rattle.node_record.specs.Ledger.{KeepsRecord}
 use Rattle.node_record.specs.Recorded.{IsLastNullifyOf}
+use Rattle.node_record.specs.declared.tables.Tables.{Tables}
 use Rattle.node_record.specs.Tables.{KeepsTables}
 use Rattle.simplex_member.specs.declared.action.Action.{Action}
 use Rattle.simplex_member.specs.declared.fault.NodeFault.{NodeFault}
@@ -437,12 +438,12 @@ module _ {S L D P G C K : Type 0} (g : Ghosts S D P G C) (e : elector.Ghosts L S
       keeps none
 
   -- behind the recorded nullify that is said once more too
-  pub behind_repeat : (node : Core S L D K P G C) (voter : State S L D P G C) (h : History S D P G C) (v : Nullify S D P G C) (best : Option (Certificate S D P G C)) (view : ℕ) → QuietStays g f.same
+  pub behind_repeat : (node : Core S L D K P G C) (voter : State S L D P G C) (tables : Tables S D P G C) (h : History S D P G C) (v : Nullify S D P G C) (best : Option (Certificate S D P G C)) (view : ℕ) → QuietStays g f.same
       → CoreKeeps g e k f s node h → Allowed g f s h (Repeats v best) → v.round.view ≡ view → voting.Keeps g e s.voter voter (voted_nullify view ∷ voter_of s h)
-      → KeepsTables (finalized_of s h) node.tables (Repeats v best ∷ h) → CoreKeeps g e k f s (record node { voter = voter }) (Repeats v best ∷ h)
-  behind_repeat node voter h v best view quiet keeps may at made tables =
+      → KeepsTables (finalized_of s h) tables (Repeats v best ∷ h) → CoreKeeps g e k f s (record node { voter = voter; tables = tables }) (Repeats v best ∷ h)
+  behind_repeat node voter tables h v best view quiet keeps may at made told =
       let repeats = ahead_nullify voter h v view at made in
-      stands_behind g e k f s node voter node.tables h (Repeats v best) quiet (λ view. (refl, λ r. refl)) refl keeps.begun refl refl keeps may repeats tables
+      stands_behind g e k f s node voter tables h (Repeats v best) quiet (λ view. (refl, λ r. refl)) refl keeps.begun refl refl keeps may repeats told
 
 -- ---- when the current view is given up again
 

@@ -168,11 +168,16 @@ module _ {S D P G C : Type 0} (g : Ghosts S D P G C) (f : Formats S D P G C) (s 
       builds = λ left. subst (λ (k : Known D). NoBuildIsDue (member_of s) k) (sym looked_known) (none.builds left);
       views = λ view due. none.views view (record {
         sought = ⊎_elim
+            (λ sought. inl (⊎_elim
             (λ backfills. inl backfills)
             (λ waits. inr (waits.0, (waits.1.0, subst (λ (k : Known D). CertificateIsWanted (member_of s) k waits.1.0 view) looked_known waits.1.1)))
+            sought))
+            (λ pending. inr pending)
             due.sought;
         first = due.first;
+        within = due.within;
       });
+      again = λ view ask to pending due. none.again view ask to pending (record { sought = inr pending; first = due.first; within = due.within });
       silence = λ view due. none.silence view (looked_latch view reason.Inactivity due);
     }
 

@@ -1,5 +1,5 @@
 -- Acts of the node's own, one behind the other, until nothing is due.
-use Rattle.std.proofs.Common.{◌≡◌, ◌⊎◌, ⊎_elim, ℕ, Bool, true, List, [], ◌∷◌, ◌++◌, None, Result, Ok, Err, map, refl, sym, subst, ◌+◌, ◌≤◌, length, length-append, arith}
+use Rattle.std.proofs.Common.{◌≡◌, ◌⊎◌, ⊎_elim, ℕ, Bool, true, List, [], ◌∷◌, ◌++◌, Some, None, Result, Ok, Err, map, refl, sym, subst, ◌+◌, ◌≤◌, length, length-append, arith}
 use Rattle.std.specs.Prelude.{◌≢◌, ◌-◌, ◌^◌, ◌<◌, All, IfOk, OnOk}
 use Rattle.std.proofs.lemmas.List.Elements.{All-append, All-head, All-nil, All-tail, All-weaker}
 use Rattle.types_core.specs.declared.scheme.Scheme.{Ghosts}
@@ -134,8 +134,11 @@ module _ {S D P G C : Type 0} (g : Ghosts S D P G C) (f : Formats S D P G C) (s 
 
   no_ask : NothingToAskOnProposals g f s h → NothingMoreToAsk g f s h → (view : ℕ) (ask : Ask) → AskIsDue g f s h view ask None → ⊥
   no_ask proposals asks view ask due = ⊎_elim
+      (λ sought. ⊎_elim
       (λ backfills. asks.views view (subst (λ (a : Ask). AskIsDue g f s h view a None) backfills.0 due))
       (λ waits. proposals.verdicts.none_put_off waits.1.0 view (record { waits = waits.1.1.waits; first = waits.1.1.first }))
+      sought)
+      (λ pending. asks.again view ask None pending due)
       due.sought
 
   -- nothing of any kind is
@@ -149,7 +152,7 @@ module _ {S D P G C : Type 0} (g : Ghosts S D P G C) (f : Formats S D P G C) (s 
       no_return = asks.returns.no_return;
       none_behind = asks.returns.none_behind;
     };
-    asks = record { no_ask = no_ask proposals asks; none_put_off = proposals.verdicts.none_put_off; none_missing = proposals.verifications.none_missing };
+    asks = record { no_ask = no_ask proposals asks; none_again = λ view ask target pending due. asks.again view ask (Some target) pending due; none_put_off = proposals.verdicts.none_put_off; none_missing = proposals.verifications.none_missing };
     constructions = record { no_construction = votes.constructions.no_construction; no_leader = votes.leaders; no_forward = votes.constructions.no_forward };
     no_reason = no_reason proposals votes asks;
   }

@@ -11,7 +11,7 @@ use Rattle.simplex_member.specs.Packet.{Formats}
 use Rattle.simplex_member.specs.Point.{History}
 use Rattle.simplex_member.specs.Setup.{Setup, member_of}
 use Rattle.node_requests.specs.Leading.{NoLeaderToName}
-use Rattle.node_requests.specs.NoneDue.{NoBuildToAsk, NoBuildToGiveBack, NoVerdictToAsk, NoVerificationToAsk, NoViewToAsk, NoSilence}
+use Rattle.node_requests.specs.NoneDue.{NoBuildToAsk, NoBuildToGiveBack, NoneToAskAgain, NoVerdictToAsk, NoVerificationToAsk, NoViewToAsk, NoSilence}
 
 module _ {S D P G C : Type 0} (s : Setup S D C) where
   -- no notarize is due
@@ -54,6 +54,7 @@ module _ {S D P G C : Type 0} (g : Ghosts S D P G C) (f : Formats S D P G C) (s 
     pub returns : NoBuildToGiveBack g f s h
     pub builds : NoBuildToAsk g f s h
     pub views : NoViewToAsk g f s h
+    pub again : NoneToAskAgain g f s h
     pub silence : NoSilence g f s h
 
   -- no own vote is due

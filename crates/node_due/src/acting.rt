@@ -8,7 +8,8 @@ ghost use Rattle.node_due.specs.NoneDue.{NoVoteToCast, NothingByVotes, NothingMo
 ghost use Rattle.node_core.specs.Telling.{TellsOfBook};
 
 use crate::asking::{
-    say_when, try_build, try_return, try_silence, try_verdicts, try_verification, try_views,
+    say_when, try_again, try_build, try_return, try_silence, try_verdicts, try_verification,
+    try_views,
 };
 use crate::casting_votes::{try_finalize, try_notarize, try_nullify};
 use crate::constructing::{try_leader, try_votes_of_views};
@@ -146,6 +147,11 @@ fn ask_for_more<S: Scheme<D> + Drop, L: Elector<S, D>, D: Digest, K: Disk>(
         Err(fault) => return Err(fault),
     }
     match try_views(core, out) {
+        Ok(Acted::Nothing) => {}
+        Ok(Acted::Did) => return Ok(Acted::Did),
+        Err(fault) => return Err(fault),
+    }
+    match try_again(core, out) {
         Ok(Acted::Nothing) => {}
         Ok(Acted::Did) => return Ok(Acted::Did),
         Err(fault) => return Err(fault),

@@ -2,7 +2,7 @@
 
 ghost use Rattle.std.specs.Prelude.{List};
 ghost use Rattle.node_requests.specs.Asking.{is_latch, is_none, is_put_off};
-ghost use Rattle.node_requests.specs.NoneDue.{NoBuildToAsk, NoBuildToGiveBack, NoSilence, NoVerdictToAsk, NoVerificationToAsk, NoViewToAsk};
+ghost use Rattle.node_requests.specs.NoneDue.{NoBuildToAsk, NoBuildToGiveBack, NoneToAskAgain, NoSilence, NoVerdictToAsk, NoVerificationToAsk, NoViewToAsk};
 ghost use Rattle.node_requests.specs.Silence.{IsSilenceOf};
 ghost use Rattle.simplex_member.specs.Member.{NoneDue};
 ghost use Rattle.node_due.specs.Acting.{WasSettled, WasTried};
@@ -14,8 +14,8 @@ use node_core::Core;
 use node_outbox::hand_out;
 use node_record::a_ledger_at_rest_leaves_its_record;
 use node_requests::{
-    Acted, Silence, ask_for_build, ask_for_verdicts, ask_for_verification, ask_for_views,
-    give_build_back, give_silent_leader_up, next_wake,
+    Acted, Silence, ask_again, ask_for_build, ask_for_verdicts, ask_for_verification,
+    ask_for_views, give_build_back, give_silent_leader_up, next_wake,
 };
 use node_votes::silent_points_leave_votes;
 use simplex_member::{Action, NodeFault, Speaks};
@@ -40,7 +40,14 @@ pub(crate) fn try_verdicts<S: Scheme<D> + Drop, L: Elector<S, D>, D: Digest, K: 
     a_ledger_at_rest_leaves_its_record::<S, D, K>();
     silent_points_leave_votes::<S, D>();
     let alloc = core.settings.alloc;
-    ask_for_verdicts(alloc, &mut core.voter, &core.repair, &mut core.tables, out)
+    ask_for_verdicts(
+        alloc,
+        core.settings.repair.again,
+        &mut core.voter,
+        &core.repair,
+        &mut core.tables,
+        out,
+    )
 }
 
 /// Asks for a verification that is due, or for what a proposal lacks to be verified; views whose proposal can never stand are given
@@ -62,7 +69,14 @@ pub(crate) fn try_verification<S: Scheme<D> + Drop, L: Elector<S, D>, D: Digest,
     a_ledger_at_rest_leaves_its_record::<S, D, K>();
     silent_points_leave_votes::<S, D>();
     let alloc = core.settings.alloc;
-    ask_for_verification(alloc, &mut core.voter, &core.repair, &mut core.tables, out)
+    ask_for_verification(
+        alloc,
+        core.settings.repair.again,
+        &mut core.voter,
+        &core.repair,
+        &mut core.tables,
+        out,
+    )
 }
 
 /// Gives back a build that fell, or drops one that is left behind.
@@ -120,7 +134,29 @@ pub(crate) fn try_views<S: Scheme<D> + Drop, L: Elector<S, D>, D: Digest, K: Dis
     a_ledger_at_rest_leaves_its_record::<S, D, K>();
     silent_points_leave_votes::<S, D>();
     let alloc = core.settings.alloc;
-    ask_for_views(alloc, &core.repair, &mut core.tables, out)
+    let policy = core.settings.repair;
+    ask_for_views(alloc, policy, &core.repair, &mut core.tables, out)
+}
+
+/// Asks again for what was asked and isn't settled, where that goes with a repeated nullify.
+///
+/// # Errors
+///
+/// [`NodeFault::Memory`].
+#[tactic(auto, using(journal_books::specs::BooksLaws::same_not_failed))]
+pub(crate) fn try_again<S: Scheme<D> + Drop, L: Elector<S, D>, D: Digest, K: Disk>(
+    core: &mut Core<S, L, D, K>,
+    out: &mut Vec<Action<S, D>>,
+) -> Result<Acted, NodeFault>
+    ensures tried { AtOwn S.Scheme L.Elector K.Disk ⟦<S as Speaks<D>>⟧.formats core.old (λ f s h.
+        WasTried S.Scheme L.Elector K.Disk f s is_none (NoneToAskAgain S.Scheme f s) core.old core.new h out.old.items out.new.items result) }
+    ensures faults { TellsOfDisk K.Disk (disks_of core.old) (disks_of core.new) result }
+{
+    a_ledger_at_rest_leaves_its_record::<S, D, K>();
+    silent_points_leave_votes::<S, D>();
+    let alloc = core.settings.alloc;
+    let again = core.settings.repair.again;
+    ask_again(alloc, again, &core.repair, &mut core.tables, out)
 }
 
 /// Gives the current view up for its leader's silence, where that is due.

@@ -175,7 +175,6 @@ fn repeat_nullify<S: Scheme<D> + Drop, L: Elector<S, D>, D: Digest, K: Disk>(
     the_nullify_of_the_current_view_is_the_last::<S, D>();
     a_ledger_at_rest_leaves_its_record::<S, D, K>();
     silent_points_leave_votes::<S, D>();
-    quiet_points_leave_the_tables::<S, D>();
     let alloc = core.settings.alloc;
     let Ok(best) = core.voter.get_best_certificate(alloc) else {
         return Err(NodeFault::Memory);
@@ -191,6 +190,7 @@ fn repeat_nullify<S: Scheme<D> + Drop, L: Elector<S, D>, D: Digest, K: Disk>(
         Ok(None) => return Ok(Acted::Nothing),
         Err(_) => return Err(NodeFault::Memory),
     }
+    core.tables.repeat();
     match send_again(alloc, vote, best, out) {
         Ok(()) => Ok(Acted::Did),
         Err(fault) => Err(fault),

@@ -1,6 +1,6 @@
 -- What a set has behind one element more, or without its first ones, beside what a list has.
-use Rattle.std.proofs.Common.{◌≡◌, ◌==◌, ◌↔◌, ◌⊎◌, ◌≤◌, ◌<◌, ◌+◌, ◌-◌, ◌^◌, ◌∙◌, inl, inr, ⊎_elim, ℕ, min, Bool, true, false, cond, List, ◌∷◌, Option, Some, sym, ap, subst, arith}
-use Rattle.std.specs.Prelude.{Contains, IsTrue, IfOk, OnOk, Result, Ok, Err, if◌then◌else◌}
+use Rattle.std.proofs.Common.{◌≡◌, ◌≢◌, ◌==◌, ◌↔◌, ◌⊎◌, ◌≤◌, ◌<◌, ◌+◌, ◌-◌, ◌^◌, ◌∙◌, inl, inr, ⊎_elim, ℕ, min, Bool, true, false, cond, List, ◌∷◌, Option, Some, sym, ap, subst, arith}
+use Rattle.std.specs.Prelude.{Contains, IsTrue, OnOk, Result, Ok, Err, if◌then◌else◌}
 use Rattle.std.specs.Ordering.{is_eq, nat_cmp}
 use Rattle.std.proofs.lemmas.Bool.{cases_lt}
 use Rattle.std.proofs.lemmas.Bool.Decides.{nat_tests}
@@ -16,18 +16,31 @@ one_more {X} P k j a xs Old New same holds more told = subst (λ (x : X). New �
   λ there. more.1 (⊎_elim (λ is. inr is) (λ later. inl (told.1 (there.0, later))) (Contains-cases k xs a there.1)),
 )
 
--- where something holds of it, it is new to the set where it is new to the list
-pub new_to : (P Q Old New : Type 0) → P → New ↔ (¬ Old) → Old ↔ (P × Q) → New ↔ (¬ Q)
-new_to P Q Old New holds new told = (λ is there. new.0 is (told.1 (holds, there)), λ none. new.1 (λ old. none (told.0 old).1))
+-- the same where the set has all
+pub one_more_of_all : {X : Type 0} (k a : X) (xs : List X) (Old New : Type 0) → New ↔ (Old ⊎ (k ≡ a)) → Old ↔ Contains xs a → New ↔ Contains (k ∷ xs) a
+one_more_of_all {X} k a xs Old New more told = (
+  λ there. ⊎_elim
+      (λ old. Contains-rest k xs a (told.0 old))
+      (λ is. subst (λ (x : X). Contains (k ∷ xs) x) is (Contains-head k xs))
+      (more.0 there),
+  λ there. more.1 (⊎_elim (λ is. inr is) (λ later. inl (told.1 later)) (Contains-cases k xs a there)),
+)
+
+-- the same set has what the list has
+pub same_of_all : (old new : Bool) (C : Type 0) → new ≡ old → IsTrue old ↔ C → IsTrue new ↔ C
+same_of_all old new C same told = (λ there. told.0 (sym same ∙ there), λ c. same ∙ told.1 c)
+
+-- one that was new, put in and taken back
+pub taken_back : {X : Type 0} (k a : X) (C : Type 0) (Old Mid New : X → Type 0) → (Old k → ⊥) → Mid a ↔ (Old a ⊎ (k ≡ a)) → New a ↔ (Mid a × (a ≢ k)) → Old a ↔ C → New a ↔ C
+taken_back {X} k a C Old Mid New is_new more fewer told = (
+  λ there. let m = fewer.0 there in ⊎_elim (λ old. told.0 old) (λ is. absurd (m.1 (sym is))) (more.0 m.0),
+  λ c. let old = told.1 c in fewer.1 (more.1 (inl old), λ is. is_new (subst Old is old)),
+)
 
 -- what follows where a call succeeded
 pub on_ok-map : {T E P Q : Type 0} (r : Result T E) → (P → Q) → OnOk r P → OnOk r Q
 on_ok-map (Ok x) f p = f p
 on_ok-map (Err e) f p = p
-
-pub if_ok_then : {T E : Type 0} {P Q : T → Type 0} (r : Result T E) → IfOk r P → ((x : T) → P x → Q x) → IfOk r Q
-if_ok_then (Ok x) p f = f x p
-if_ok_then (Err e) p f = p
 
 -- without those up to a number
 pub left_above : (low last u : ℕ) (old new : Bool) (C : Type 0) → low ≤ last → (u ≤ last → ¬ IsTrue new) → (last < u → new ≡ old) → IsTrue old ↔ ((low < u) × C) → IsTrue new ↔ ((last < u) × C)

@@ -12,3 +12,4 @@ pub mod Beginning
 pub mod Built
 pub mod Rewriting
 pub mod Appended
+pub mod Pending

@@ -30,5 +30,5 @@ module _ {S D P G C : Type 0} (low : ℕ) (tables : Tables S D P G C) (h : Histo
   stays_quiet (Asks view ask to) quiet k = absurd (cc quiet)
   stays_quiet (Resolves view kind u) quiet k = k
   stays_quiet (Votes v) quiet k = k
-  stays_quiet (Repeats v best) quiet k = k
+  stays_quiet (Repeats v best) quiet k = absurd (cc quiet)
   stays_quiet (Rewrote c) quiet k = k

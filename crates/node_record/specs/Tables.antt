@@ -7,9 +7,9 @@ use Rattle.std.specs.declared.cmp.Ordering.{Ordering}
 use Rattle.types_core.specs.declared.context.Context.{Context}
 use Rattle.simplex_member.specs.declared.asked.Asked.{Asked}
 use Rattle.simplex_member.specs.contracts.asked.AskedOrd.TheImpl as asked_ord
-use Rattle.simplex_member.specs.Asked.{asks_of, build_at, check_at, last_heard, next_number}
+use Rattle.simplex_member.specs.Asked.{asks_now, asks_of, build_at, check_at, last_heard, next_number, was_repeated}
 use Rattle.simplex_member.specs.Layers.{latest, opened_at}
-use Rattle.simplex_member.specs.Point.{Point, Opened, Told, Heard, Built, Checked, AsksBuild, AsksVerify, AsksCertify, GivesBack, LeavesBehind, Asks, History}
+use Rattle.simplex_member.specs.Point.{Point, Opened, Told, Heard, Built, Checked, AsksBuild, AsksVerify, AsksCertify, GivesBack, LeavesBehind, Asks, Repeats, History}
 use Rattle.node_record.specs.declared.tables.Building.{Building}
 use Rattle.node_record.specs.declared.tables.Tables.{Tables}
 
@@ -26,6 +26,8 @@ pub record Remembered (D P : Type 0) : Type 0 where
   pub checks : ℕ → Option ℕ
   pub heard : ℕ → ℕ
   pub asks : List Asked
+  pub asks_now : List Asked
+  pub repeated : Bool
   pub verdicts : List ℕ
 
 -- whether a build is for a handoff, and its context
@@ -56,6 +58,7 @@ module _ {S D P G C : Type 0} where
   is_quiet (GivesBack number view) = false
   is_quiet (LeavesBehind number) = false
   is_quiet (Asks view ask to) = false
+  is_quiet (Repeats v best) = false
   is_quiet p = true
 
   -- all of this by a history
@@ -68,6 +71,8 @@ module _ {S D P G C : Type 0} where
     checks = λ number. check_at h number;
     heard = λ member. last_heard h member;
     asks = asks_of h;
+    asks_now = asks_now h;
+    repeated = was_repeated h;
     verdicts = verdicts_of h;
   }
 
@@ -80,6 +85,8 @@ module _ {S D P G C : Type 0} where
     pub checks : (number : ℕ) → get nat_cmp tables.checks number ≡ r.checks number
     pub heard : (member : ℕ) → unwrap_or (get nat_cmp tables.heard member) tables.opened ≡ r.heard member
     pub asks : (a : Asked) → IsTrue (contains asked_cmp tables.asks a) ↔ ((low < a.view) × Contains r.asks a)
+    pub asks_now : (a : Asked) → IsTrue (contains asked_cmp tables.asks_now a) ↔ Contains r.asks_now a
+    pub repeated : tables.repeated ≡ r.repeated
     pub verdicts : (view : ℕ) → IsTrue (contains nat_cmp tables.verdicts view) ↔ ((low < view) × Contains r.verdicts view)
 
   -- the tables stand where this history leads: of asks and requests for verdicts, those of views above this one and no other

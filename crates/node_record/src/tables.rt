@@ -1,25 +1,29 @@
 //! What a node remembers of what it asked for, of when members were heard, and of the time.
 
-ghost use Rattle.std.specs.Prelude.{◌≡◌, ◌↔◌, ◌⊎◌, ◌≤◌, ◌<◌, ◌∷◌, [], ℕ, Bool, Option, Some, None, false, option_map, Contains, IsTrue, IfOk, IfSome, OnOk, OnErr, MatchOption};
+ghost use Rattle.std.specs.Prelude.{◌≡◌, ◌≢◌, ◌↔◌, ◌⊎◌, ◌&&◌, ◌≤◌, ◌<◌, ◌∷◌, [], ℕ, Bool, Option, Some, None, false, option_map, Contains, IsTrue, IfOk, IfSome, OnOk, OnErr, MatchOption};
 ghost use Rattle.std.specs.BTreeSet.{contains};
 ghost use Rattle.std.specs.Ordering.{nat_cmp};
 ghost use Rattle.types_core.specs.declared.context.Context.{Context};
 ghost use Rattle.types_core.specs.declared.proposal.Proposal.{Proposal};
+ghost use Rattle.messages_certificates.specs.declared.certificate.Certificate.{Certificate};
+ghost use Rattle.messages_certificates.specs.declared.nullify.Nullify.{Nullify};
 ghost use Rattle.simplex_messages.specs.declared.vote.Vote.{Vote};
 ghost use Rattle.simplex_messages.specs.VoteParts.{vote_signer};
+ghost use Rattle.simplex_resolver.specs.declared.ask.Until.TheVariants as until;
 ghost use Rattle.simplex_member.specs.declared.asked.Asked.{Asked};
-ghost use Rattle.simplex_member.specs.Asked.{HasNumber, IsAwaited, IsJudged, asks_of, build_at, check_at, last_heard, next_number};
+ghost use Rattle.simplex_member.specs.Asked.{HasNumber, IsAwaited, IsJudged, IsPending, asks_of, build_at, check_at, goes_again, last_heard, next_number, sent_of, was_repeated};
 ghost use Rattle.simplex_member.specs.Layers.{finalized_of, latest};
-ghost use Rattle.simplex_member.specs.Point.{History, Outcome, Opened, Told, Heard, Built, Checked, AsksBuild, AsksVerify, AsksCertify, GivesBack, LeavesBehind, Asks};
+ghost use Rattle.simplex_member.specs.Point.{History, Outcome, Opened, Told, Heard, Built, Checked, AsksBuild, AsksVerify, AsksCertify, GivesBack, LeavesBehind, Asks, Repeats};
 ghost use Rattle.simplex_member.specs.Setup.{Setup};
 ghost use Rattle.node_record.specs.Tables.{AtEach, IsFirstBuild, KeepsTables, asked_cmp, build_parts, verdicts_of};
 
 use simplex_member::Asked;
-use simplex_resolver::Ask;
+use simplex_resolver::{Ask, Until};
 use std::alloc::{AllocError, Global};
 use std::collections::{BTreeMap, BTreeSet};
 use std::ops::Bound;
 use types_core::{Context, Digest, Participant, PublicKey, Scheme, View};
+use voter_rules::config::Again;
 
 /// A build that was asked for.
 #[derive(Clone, Copy)]
@@ -51,6 +55,10 @@ pub struct Tables<S: Scheme<D>, D: Digest> {
     pub(crate) heard: BTreeMap<Participant, u64>,
     /// What other members were asked.
     pub(crate) asks: BTreeSet<Asked>,
+    /// What of that was asked since the time was told last.
+    pub(crate) asks_now: BTreeSet<Asked>,
+    /// Whether a nullify was repeated since then.
+    pub(crate) repeated: bool,
 }
 
 impl<S: Scheme<D>, D: Digest> Tables<S, D> {
@@ -67,6 +75,8 @@ impl<S: Scheme<D>, D: Digest> Tables<S, D> {
             verdicts: BTreeSet::new(alloc),
             heard: BTreeMap::new(alloc),
             asks: BTreeSet::new(alloc),
+            asks_now: BTreeSet::new(alloc),
+            repeated: false,
         }
     }
 
@@ -82,6 +92,8 @@ impl<S: Scheme<D>, D: Digest> Tables<S, D> {
         ensures { AtEach self.old (λ low h. KeepsTables low self.new (Told now ∷ h)) }
     {
         self.moment = now;
+        self.asks_now.clear();
+        self.repeated = false;
     }
 
     /// When the member was heard last: at its last accepted vote, or at the opening.
@@ -212,15 +224,68 @@ impl<S: Scheme<D>, D: Digest> Tables<S, D> {
         self.verdicts.contains(&view)
     }
 
-    /// Notes that this is asked of other members, of a view that isn't final: whether it was not asked before.
-    pub fn add_ask(&mut self, asked: Asked) -> Result<bool, AllocError>
-        ensures is_new { IfOk result (λ is_new. AtEach self.old (λ low h. low < asked.view → IsTrue is_new ↔ ¬ Contains (asks_of h) asked)) }
+    /// Notes that this is asked of other members, of a view that isn't final.
+    pub fn add_ask(&mut self, asked: Asked) -> Result<(), AllocError>
         ensures keeps { OnOk result
             (AtEach self.old (λ low h. low < asked.view → KeepsTables low self.new (Asks asked.view asked.ask asked.to ∷ h))) }
-        ensures known { IfOk result (λ is_new. is_new ≡ false → AtEach self.old (λ low h. KeepsTables low self.new h)) }
         ensures memory { OnErr result (AtEach self.old (λ low h. KeepsTables low self.new h)) }
     {
-        put_ask(&mut self.asks, asked.view, asked.ask, asked.to)
+        let Asked { view, ask, to } = asked;
+        let is_new = put_ask(&mut self.asks_now, view, ask, to)?;
+        match put_ask(&mut self.asks, view, ask, to) {
+            Ok(_) => Ok(()),
+            Err(error) => {
+                if is_new {
+                    take_ask(&mut self.asks_now, asked);
+                }
+                Err(error)
+            }
+        }
+    }
+
+    /// Notes that a nullify was repeated.
+    pub fn repeat(&mut self)
+        ensures { AtEach self.old (λ low h.
+            (v : Nullify S D S.PublicKey S.Signature S.Certificate)
+            (best : Option (Certificate S D S.PublicKey S.Signature S.Certificate))
+            → KeepsTables low self.new (Repeats v best ∷ h)) }
+    {
+        self.repeated = true;
+    }
+
+    /// Whether asks go again, where they do with a repeated nullify: one was repeated since the time was told last.
+    pub fn asks_again(&self, again: Again) -> bool
+        ensures { AtEach self.now (λ low h. result ≡ (goes_again again && was_repeated h)) }
+    {
+        match again {
+            Again::Once => false,
+            Again::WithNullify => self.repeated,
+        }
+    }
+
+    /// Whether this went out for now, of a view that isn't final: it was asked, and asks don't go again, or it did.
+    pub fn was_sent(&self, asked: &Asked, again: Again) -> bool
+        ensures { AtEach self.now (λ low h.
+            (s : Setup S D S.Certificate) → s.repair.again ≡ again → low < asked.now.view → IsTrue result ↔ Contains (sent_of s h) asked.now) }
+    {
+        if self.asks_again(again) {
+            self.asks_now.contains(asked)
+        } else {
+            self.asks.contains(asked)
+        }
+    }
+
+    /// What was asked until a finalization, of views that aren't final. It goes over all that was asked of these.
+    ///
+    /// # Errors
+    ///
+    /// Where memory is refused.
+    pub fn pending(&self, alloc: Global) -> Result<Vec<Asked>, AllocError>
+        ensures { IfOk result (λ pending.
+            AtEach self.now (λ low h. (a : Asked)
+            → Contains pending.items a ↔ ((low < a.view) × IsPending h a.view a.ask a.to))) }
+    {
+        pending_of(&self.asks, alloc)
     }
 
     /// Whether this was asked before, of a view that isn't final.
@@ -263,6 +328,27 @@ fn put_ask(
     ensures memory { OnErr result ((a : Asked) → contains asked_cmp asks.new a ≡ contains asked_cmp asks.old a) }
 {
     Ok(asks.insert(Asked { view, ask, to })?)
+}
+
+/// Takes an ask out.
+fn take_ask(asks: &mut BTreeSet<Asked>, asked: Asked)
+    ensures { (a : Asked) → IsTrue (contains asked_cmp asks.new a) ↔ (IsTrue (contains asked_cmp asks.old a) × (a ≢ asked)) }
+{
+    let _ = asks.remove(&asked);
+}
+
+/// The asks that stand until a finalization.
+fn pending_of(asks: &BTreeSet<Asked>, alloc: Global) -> Result<Vec<Asked>, AllocError>
+    ensures { IfOk result (λ pending. (a : Asked)
+        → Contains pending.items a ↔ (IsTrue (contains asked_cmp asks.now a) × (a.ask.until ≡ until.Finalization))) }
+{
+    let mut pending = Vec::new(alloc);
+    for asked in asks {
+        if asked.ask.until == Until::Finalization {
+            pending.push(*asked)?;
+        }
+    }
+    Ok(pending)
 }
 
 /// Takes the views up to this one out.

@@ -12,3 +12,4 @@ mod Wanted
 mod Coming
 mod GivenUp
 mod Unnamed
+mod Again

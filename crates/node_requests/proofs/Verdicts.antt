@@ -25,6 +25,7 @@ use Rattle.voter_rules.specs.GivingUp.{IsTracked}
 use Rattle.voter_rules.specs.declared.certificate_fetch.CertificateFetch.{CertificateFetch}
 use Rattle.voter_rules.specs.Requests.{ArePutOff, AreReady, CertificateIsWanted, CertifyIsDue, CertifyWaits, IsPutOff, VerdictIsOpen}
 use Rattle.voter_laws.specs.Steps.{put_holds}
+use Rattle.simplex_resolver.specs.declared.ask.Ask.{Ask}
 use Rattle.simplex_resolver.specs.declared.ask.Kind.TheVariants as kind
 use Rattle.simplex_state.specs.Candidates.{AreWanted, put_off}
 use Rattle.simplex_state.specs.Known.{AddsIfTracked}
@@ -51,7 +52,7 @@ use Rattle.node_requests.specs.declared.acted.Acted.TheVariants as came
 use Rattle.node_requests.specs.Fetching.{AreAllWanted, Fetches, FetchesParents, HasFetched, RepairerKeeps, is_fetch}
 use Rattle.node_requests.specs.NoneDue.{NoVerdictToAsk}
 use Rattle.node_requests.specs.Onward.{is_some_list, on_before, on_behind}
-use Rattle.node_requests.proofs.Seeking.{AsksBut, deeds_then, goes_then, none_asked, one_fewer, stands_aside}
+use Rattle.node_requests.proofs.Seeking.{AsksBut, deeds_then, goes_then, none_asked, one_fewer, sent_answered, stands_aside}
 
 -- a list is empty, or has an item
 empty_or_not : {X : Type 0} (xs : List X) → (xs ≡ []) ⊎ (xs ≢ [])
@@ -378,6 +379,7 @@ module _ {S D P G C : Type 0} (g : Ghosts S D P G C) (f : Formats S D P G C) (s 
   one_parent_asked wanted x left repair first tables more h before mid after sent stands k fetches = (
     came_by k.0 sent,
     one_fewer g f s (ancestry kind.Notarization) (IsWantedIn wanted) x.view (map (λ (y : CertificateFetch). y.view) left) tables more h before mid after k.0 (came_by k.0 sent) sent stands.begun (none_came k.0 sent) (some_came k.0 sent) k.1
+        (λ end aside back. absurd (cc (ap (λ (a : Ask). a.kind) back)))
         (λ end aside there. fetches end (subst (λ r. repairing.Keeps s.voter.length repair r) (sym aside.repair) stands.repair_is) there),
   )
 
@@ -386,7 +388,7 @@ module _ {S D P G C : Type 0} (g : Ghosts S D P G C) (f : Formats S D P G C) (s 
     points = k.1.points;
     end = k.1.end;
     fetched = k.1.fetched;
-    answered = λ fetch there. ⊎_elim (λ left. absurd (Contains-nil fetch.view left)) (λ is. is) (k.1.rest fetch.view (fetch, there, refl));
+    answered = λ fetch there. ⊎_elim (λ left. absurd (Contains-nil fetch.view left)) (λ is. sent_answered g f s k.1.end fetch.view (ancestry kind.Notarization) None is) (k.1.rest fetch.view (fetch, there, refl));
   }
 
 put_off_is_ask : {S D P G C : Type 0} (p : Point S D P G C) → is_put_off p ≡ true → is_ask p ≡ true

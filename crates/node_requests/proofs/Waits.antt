@@ -28,6 +28,7 @@ use Rattle.voter_rules.specs.Requests.{AsksNothing, IsInvalid, Scanned, begun, p
 use Rattle.voter_laws.specs.Matching.{ScanChangesNothing, ScanLeavesNoReason}
 use Rattle.voter_laws.specs.Missing.{IsMissing}
 use Rattle.voter_laws.specs.StaysKnown.{WhatIsKnownStays}
+use Rattle.simplex_resolver.specs.declared.ask.Ask.{Ask}
 use Rattle.simplex_resolver.specs.declared.ask.Kind as repair
 use Rattle.simplex_resolver.specs.declared.ask.Kind.TheVariants as kind
 use Rattle.simplex_state.specs.declared.state.State.{State}
@@ -53,7 +54,7 @@ use Rattle.node_requests.specs.Fetching.{Fetches}
 use Rattle.node_requests.specs.GivingUp.{GivesInvalidUp}
 use Rattle.node_requests.specs.NoneDue.{NoInvalidProposal, NoVerificationToAsk}
 use Rattle.node_requests.proofs.Acts.{one_asked}
-use Rattle.node_requests.proofs.Seeking.{deeds_then, goes_then}
+use Rattle.node_requests.proofs.Seeking.{deeds_then, goes_then, sent_answered}
 
 -- ---- what was latched
 
@@ -281,7 +282,7 @@ module _ {S L D P G C : Type 0} (g : Ghosts S D P G C) (e : elector.Ghosts L S D
       resolves at voted k index asks leads true came =
           let a : Point S D P G C = Asks view (ancestry what) (Some index) in
           let r : Point S D P G C = Resolves proposal what view in
-          let ask : Allowed g f s k.end a = record { order = k.begun; due = record { sought = (what, proposal, refl, asks.missing, leads); first = came.0 }; fits = tt; readable = tt } in
+          let ask : Allowed g f s k.end a = record { order = k.begun; due = record { sought = inl (what, proposal, refl, asks.missing, leads); first = came.0; within = λ back. absurd (cc (ap (λ (q : Ask). q.until) back)) }; fits = tt; readable = tt } in
           let may : Allowed g f s (a ∷ k.end) r = record {
             order = k.begun;
             due = record { missing = asks.missing; index = index; leads = leads; asked = inr (Contains-head (record { view = view; ask = ancestry what; to = Some index }) (asks_of k.end)) };
@@ -297,7 +298,7 @@ module _ {S L D P G C : Type 0} (g : Ghosts S D P G C) (e : elector.Ghosts L S D
           }) (is_some_list a (r ∷ []))
       resolves at voted k index asks leads false came =
           let r : Point S D P G C = Resolves proposal what view in
-          let may : Allowed g f s k.end r = record { order = k.begun; due = record { missing = asks.missing; index = index; leads = leads; asked = came.0 }; fits = tt; readable = tt } in
+          let may : Allowed g f s k.end r = record { order = k.begun; due = record { missing = asks.missing; index = index; leads = leads; asked = sent_answered g f s k.end view (ancestry what) (Some index) came.0 }; fits = tt; readable = tt } in
           asked_behind voter more h voted k (r ∷ []) (r ∷ k.end) before after (record {
             are_asks = All-cons (λ (q : Point S D P G C). is_ask q ≡ true) r [] refl (All-nil (λ (q : Point S D P G C). is_ask q ≡ true));
             goes = (may, refl);

@@ -1,5 +1,5 @@
 -- Views that are asked for of other members.
-use Rattle.std.specs.Prelude.{◌≡◌, ◌≢◌, ◌∷◌, [], ℕ, Bool, true, false, List, All, Contains, None}
+use Rattle.std.specs.Prelude.{◌≡◌, ◌≢◌, ◌↔◌, ◌<◌, ◌∷◌, [], ℕ, Bool, true, false, List, All, Contains, None}
 use Rattle.types_core.specs.declared.scheme.Scheme.{Ghosts}
 use Rattle.voter_rules.specs.declared.certificate_fetch.CertificateFetch.{CertificateFetch}
 use Rattle.voter_rules.specs.Requests.{CertificateIsWanted}
@@ -11,7 +11,7 @@ use Rattle.node_record.specs.Tables.{KeepsTables}
 use Rattle.simplex_member.specs.declared.action.Action.{Action}
 use Rattle.simplex_member.specs.declared.asked.Asked.{Asked}
 use Rattle.simplex_member.specs.Allowed.{AreAllowed}
-use Rattle.simplex_member.specs.Asked.{IsAnswered, ancestry}
+use Rattle.simplex_member.specs.Asked.{IsAnswered, IsPending, IsSent, ancestry}
 use Rattle.simplex_member.specs.Deeds.{Sends, all_deeds}
 use Rattle.simplex_member.specs.Layers.{finalized_of, is_begun, known_of, repair_of}
 use Rattle.simplex_member.specs.Member.{Goes}
@@ -29,11 +29,15 @@ module _ {S D P G C : Type 0} where
   is_fetch p = false
 
 module _ {S D P G C : Type 0} (f : Formats S D P G C) (s : Setup S D C) where
-  -- this was asked now, since it isn't settled and was not asked before; or nothing was handed out, since one of the two is so
+  -- these are what was asked until a finalization, of views above the last finalized one
+  abbrev pub ArePending : History S D P G C → List Asked → Type 0
+  ArePending h pending = (a : Asked) → Contains pending a ↔ ((finalized_of s h < a.view) × IsPending h a.view a.ask a.to)
+
+  -- this was asked now, since it isn't settled and didn't go out for now; or nothing was handed out, since one of the two is so
   abbrev pub Fetches : Tables S D P G C → History S D P G C → Asked → List (Action S D P G C) → List (Action S D P G C) → Bool → Type 0
   Fetches tables h asked before after true =
-      (¬ IsAnswered f s h asked.view asked.ask asked.to) × KeepsTables (finalized_of s h) tables (Asks asked.view asked.ask asked.to ∷ h) × AddsDeeds f before after (Sends asked.to (of_ask asked.view) ∷ [])
-  Fetches tables h asked before after false = IsAnswered f s h asked.view asked.ask asked.to × KeepsTables (finalized_of s h) tables h × (after ≡ before)
+      (¬ IsSent f s h asked.view asked.ask asked.to) × KeepsTables (finalized_of s h) tables (Asks asked.view asked.ask asked.to ∷ h) × AddsDeeds f before after (Sends asked.to (of_ask asked.view) ∷ [])
+  Fetches tables h asked before after false = IsSent f s h asked.view asked.ask asked.to × KeepsTables (finalized_of s h) tables h × (after ≡ before)
 
 module _ {S D P G C : Type 0} (g : Ghosts S D P G C) (f : Formats S D P G C) (s : Setup S D C) where
   -- who repairs stands where this history leads: the record was gone through, each point was allowed, and the repair and the tables

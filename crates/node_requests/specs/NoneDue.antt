@@ -1,14 +1,15 @@
 -- That nothing of a kind is left to be asked.
-use Rattle.std.specs.Prelude.{◌≡◌, ◌<◌, ℕ, Bool, Some, None}
+use Rattle.std.specs.Prelude.{◌≡◌, ◌<◌, ℕ, Bool, Option, Some, None}
 use Rattle.types_core.specs.declared.context.Context.{Context}
 use Rattle.types_core.specs.declared.proposal.Proposal.{Proposal}
 use Rattle.types_core.specs.declared.scheme.Scheme.{Ghosts}
 use Rattle.voter_history.specs.declared.timeout_reason.TimeoutReason.TheVariants as reason
 use Rattle.voter_rules.specs.Requests.{NoBuildIsDue, VerifyIsDue, CertifyIsDue, IsPutOff}
 use Rattle.voter_laws.specs.Missing.{IsMissing}
+use Rattle.simplex_resolver.specs.declared.ask.Ask.{Ask}
 use Rattle.simplex_resolver.specs.declared.ask.Kind as repair
 use Rattle.simplex_member.specs.Allowed.{AskIsDue, IsGivenBack, LatchIsDue}
-use Rattle.simplex_member.specs.Asked.{HasNumber, backfill, build_at}
+use Rattle.simplex_member.specs.Asked.{HasNumber, IsPending, backfill, build_at}
 use Rattle.simplex_member.specs.Layers.{current_of, known_of}
 use Rattle.simplex_member.specs.Packet.{Formats}
 use Rattle.simplex_member.specs.Point.{History}
@@ -42,6 +43,10 @@ module _ {S D P G C : Type 0} (g : Ghosts S D P G C) (f : Formats S D P G C) (s 
   -- no view is to be asked for of all, to leave it behind
   abbrev pub NoViewToAsk : History S D P G C → Type 0
   NoViewToAsk h = (view : ℕ) → ¬ AskIsDue g f s h view backfill None
+
+  -- nothing is to be asked again that was asked until a finalization
+  abbrev pub NoneToAskAgain : History S D P G C → Type 0
+  NoneToAskAgain h = (view : ℕ) (ask : Ask) (to : Option ℕ) → IsPending h view ask to → ¬ AskIsDue g f s h view ask to
 
   -- that a leader is silent is no reason that is due
   abbrev pub NoSilence : History S D P G C → Type 0

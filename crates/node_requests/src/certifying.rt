@@ -28,6 +28,7 @@ use types_core::{Digest, Proposal, Scheme, Viewable};
 use types_terms::Elector;
 use voter_history::Token;
 use voter_rules::CertificateFetch;
+use voter_rules::config::Again;
 
 /// Asks for all verdicts that are due; and all for the notarizations that verdicts wait for, which are put off until then.
 ///
@@ -36,6 +37,7 @@ use voter_rules::CertificateFetch;
 /// [`NodeFault::Memory`].
 pub fn ask_for_verdicts<S: Scheme<D> + Drop, L: Elector<S, D>, D: Digest>(
     alloc: Global,
+    again: Again,
     voter: &mut Voter<S, L, D>,
     repair: &Repair,
     tables: &mut Tables<S, D>,
@@ -43,7 +45,8 @@ pub fn ask_for_verdicts<S: Scheme<D> + Drop, L: Elector<S, D>, D: Digest>(
 ) -> Result<Acted, NodeFault>
     ensures acts { IfOk result (λ acted.
         AtAsker S.Scheme L.Elector ⟦<S as Speaks<D>>⟧.formats voter.old repair.now tables.old (λ f s h.
-        ComesToAsk S.Scheme L.Elector f s is_put_off (NoVerdictToAsk S.Scheme f s) voter.new tables.new h out.old.items out.new.items acted)) }
+        s.repair.again ≡ again
+        → ComesToAsk S.Scheme L.Elector f s is_put_off (NoVerdictToAsk S.Scheme f s) voter.new tables.new h out.old.items out.new.items acted)) }
     ensures fault { IfErr result (λ why. why ≡ step_fault.Memory) }
 {
     match voter.certify_candidates(alloc) {
@@ -51,7 +54,7 @@ pub fn ask_for_verdicts<S: Scheme<D> + Drop, L: Elector<S, D>, D: Digest>(
             if are_none(&ready, &fetches) {
                 return Ok(Acted::Nothing);
             }
-            fetch_parents(alloc, &fetches, repair, tables, out)?;
+            fetch_parents(alloc, &fetches, again, repair, tables, out)?;
             ask_each(&ready, voter, tables, out)?;
             Ok(Acted::Did)
         }
@@ -70,12 +73,13 @@ fn are_none<D: Digest>(ready: &[Proposal<D>], fetches: &[CertificateFetch]) -> b
 fn fetch_parents<S: Scheme<D>, D: Digest>(
     alloc: Global,
     fetches: &[CertificateFetch],
+    again: Again,
     repair: &Repair,
     tables: &mut Tables<S, D>,
     out: &mut Vec<Action<S, D>>,
 ) -> Result<(), NodeFault>
     ensures fetched { OnOk result (AtRepairer S.Scheme ⟦<S as Speaks<D>>⟧.formats repair.now tables.old (λ f s h.
-        AreAllWanted S.Scheme f s h fetches.now → FetchesParents S.Scheme f s tables.new h fetches.now out.old.items out.new.items)) }
+        s.repair.again ≡ again → AreAllWanted S.Scheme f s h fetches.now → FetchesParents S.Scheme f s tables.new h fetches.now out.old.items out.new.items)) }
     ensures fault { IfErr result (λ why. why ≡ step_fault.Memory) }
 {
     for wanted in fetches {
@@ -84,7 +88,7 @@ fn fetch_parents<S: Scheme<D>, D: Digest>(
             ask: Ask::ancestry(Kind::Notarization),
             to: None,
         };
-        match fetch(alloc, asked, repair, tables, out) {
+        match fetch(alloc, asked, again, repair, tables, out) {
             Ok(_) => {}
             Err(fault) => return Err(fault),
         }

@@ -18,8 +18,9 @@ use simplex_member::{Action, Asked, Channel, NodeFault, Speaks, repair_and_voter
 use simplex_resolver::State as Repair;
 use std::alloc::Global;
 use types_core::{Digest, Participant, Scheme, View, Write};
+use voter_rules::config::Again;
 
-/// Asks for this, where it isn't settled and the same was not asked before: whether it was asked now.
+/// Asks for this, where it isn't settled and the same was not asked before, or goes again: whether it was asked now.
 ///
 /// # Errors
 ///
@@ -27,12 +28,14 @@ use types_core::{Digest, Participant, Scheme, View, Write};
 pub(crate) fn fetch<S: Scheme<D>, D: Digest>(
     alloc: Global,
     asked: Asked,
+    again: Again,
     repair: &Repair,
     tables: &mut Tables<S, D>,
     out: &mut Vec<Action<S, D>>,
 ) -> Result<bool, NodeFault>
     ensures fetches { IfOk result (λ sent.
         (n : ℕ) (s : Setup S D S.Certificate) (h : History S D S.PublicKey S.Signature S.Certificate)
+        → s.repair.again ≡ again
         → repairing.Keeps s.voter.length repair.now (repair_of (⟦<S as Speaks<D>>⟧.formats n) h)
         → KeepsTables (finalized_of s h) tables.old h
         → Fetches (⟦<S as Speaks<D>>⟧.formats n) s tables.new h asked out.old.items out.new.items sent) }
@@ -43,9 +46,11 @@ pub(crate) fn fetch<S: Scheme<D>, D: Digest>(
     if repair.settled(view, ask.kind) {
         return Ok(false);
     }
+    if tables.was_sent(&asked, again) {
+        return Ok(false);
+    }
     match tables.add_ask(asked) {
-        Ok(true) => send_ask(alloc, view, to, out),
-        Ok(false) => Ok(false),
+        Ok(()) => send_ask(alloc, view, to, out),
         Err(_) => Err(NodeFault::Memory),
     }
 }

@@ -18,7 +18,7 @@ pub use building::{ask_for_build, give_build_back};
 pub use certifying::ask_for_verdicts;
 pub use following::follow_leader;
 pub use naming::name_leader;
-pub use repairing::ask_for_views;
+pub use repairing::{ask_again, ask_for_views};
 pub use silence::{Silence, give_silent_leader_up};
 pub use verifying::ask_for_verification;
 pub use waking::{is_given_up, next_wake};

@@ -34,6 +34,7 @@ use types_core::{Context, Digest, Proposal, Scheme, View};
 use types_terms::Elector;
 use voter_history::TimeoutReason;
 use voter_laws::{a_look_leaves_nothing_to_ask, what_is_known_stays};
+use voter_rules::config::Again;
 use voter_rules::one_request_is_due;
 use voter_rules::requests::{VerifyRequest, request_for};
 
@@ -45,6 +46,7 @@ use voter_rules::requests::{VerifyRequest, request_for};
 /// [`NodeFault::Memory`].
 pub fn ask_for_verification<S: Scheme<D> + Drop, L: Elector<S, D>, D: Digest>(
     alloc: Global,
+    again: Again,
     voter: &mut Voter<S, L, D>,
     repair: &Repair,
     tables: &mut Tables<S, D>,
@@ -52,7 +54,8 @@ pub fn ask_for_verification<S: Scheme<D> + Drop, L: Elector<S, D>, D: Digest>(
 ) -> Result<Acted, NodeFault>
     ensures acts { IfOk result (λ acted.
         AtAsker S.Scheme L.Elector ⟦<S as Speaks<D>>⟧.formats voter.old repair.now tables.old (λ f s h.
-        ComesToAsk S.Scheme L.Elector f s is_latch (NoVerificationToAsk S.Scheme f s) voter.new tables.new h out.old.items out.new.items
+        s.repair.again ≡ again
+        → ComesToAsk S.Scheme L.Elector f s is_latch (NoVerificationToAsk S.Scheme f s) voter.new tables.new h out.old.items out.new.items
         acted)) }
     ensures fault { IfErr result (λ why. why ≡ step_fault.Memory) }
 {
@@ -60,7 +63,7 @@ pub fn ask_for_verification<S: Scheme<D> + Drop, L: Elector<S, D>, D: Digest>(
         return give_invalid_up(voter, tables);
     }
     match voter.try_verify(tables.moment()) {
-        Ok(wanted) => ask_what_is_wanted(alloc, wanted, voter, repair, tables, out),
+        Ok(wanted) => ask_what_is_wanted(alloc, wanted, again, voter, repair, tables, out),
         Err(_) => Err(NodeFault::Memory),
     }
 }
@@ -69,6 +72,7 @@ pub fn ask_for_verification<S: Scheme<D> + Drop, L: Elector<S, D>, D: Digest>(
 fn ask_what_is_wanted<S: Scheme<D> + Drop, L: Elector<S, D>, D: Digest>(
     alloc: Global,
     wanted: Verify<D, S::PublicKey>,
+    again: Again,
     voter: &Voter<S, L, D>,
     repair: &Repair,
     tables: &mut Tables<S, D>,
@@ -77,7 +81,8 @@ fn ask_what_is_wanted<S: Scheme<D> + Drop, L: Elector<S, D>, D: Digest>(
     requires { tabled.AtEach tables.old (λ low h. HasNumber h) }
     ensures acts { IfOk result (λ acted.
         AtRepairer S.Scheme ⟦<S as Speaks<D>>⟧.formats repair.now tables.old (λ f s h.
-        Answers S.Scheme L.Elector s.voter voter.now (latest h) (voter_of s h) wanted
+        s.repair.again ≡ again
+        → Answers S.Scheme L.Elector s.voter voter.now (latest h) (voter_of s h) wanted
         → ComesToAsk S.Scheme L.Elector f s is_latch (NoVerificationToAsk S.Scheme f s) voter.now tables.new h out.old.items out.new.items
         acted)) }
     ensures fault { IfErr result (λ why. why ≡ step_fault.Memory) }
@@ -95,6 +100,7 @@ fn ask_what_is_wanted<S: Scheme<D> + Drop, L: Elector<S, D>, D: Digest>(
         } => match fetch(
             alloc,
             lacked_by(voter, proposal, view, kind),
+            again,
             repair,
             tables,
             out,

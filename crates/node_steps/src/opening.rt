@@ -406,6 +406,7 @@ fn settings_of<S: Scheme<D>, L: Elector<S, D>, D: Digest>(
         owner,
         forward: config.forward,
         silence: silence_of(config.skip),
+        repair: config.repair,
         longest: longest_timeout(config, &terms),
     }
 }

@@ -21,11 +21,14 @@ pub(crate) fn say_effects(effects: &[Effect], say: &mut Say) -> Result<(), Troub
 fn say_effect(effect: Effect, say: &mut Say) -> Result<(), Trouble> {
     match effect {
         Effect::Fetch {
-            view,
+            first,
+            last,
             cause,
             reason,
         } => {
-            say_views("fetch ", view, cause, say)?;
+            say_views("fetch ", first, last, say)?;
+            say.gap()?;
+            say.view(cause)?;
             say.gap()?;
             say.text(reason.as_str())
         }
@@ -74,11 +77,13 @@ pub(crate) fn effect_of(words: &mut Words<'_>) -> Result<Effect, Trouble> {
 }
 
 fn fetch_of(words: &mut Words<'_>) -> Result<Effect, Trouble> {
-    let view = words.view()?;
+    let first = words.view()?;
+    let last = words.view()?;
     let cause = words.view()?;
     let reason = reason_of(words.word())?;
     Ok(Effect::Fetch {
-        view,
+        first,
+        last,
         cause,
         reason,
     })

@@ -6,7 +6,9 @@ use simplex_types::PlainScheme;
 use test_words::{Committee, Say, Trouble, Words};
 use types_core::{Sha256Digest, ViewDelta};
 use voter_rules::check_floor;
-use voter_rules::config::{Config, ForwardPolicy, SkipBudget, SkipPolicy, check_config};
+use voter_rules::config::{
+    Config, ForwardPolicy, RepairPolicy, SkipBudget, SkipPolicy, check_config,
+};
 
 /// How many members the committees have whose certificates are read.
 const MEMBERS: u32 = 4;
@@ -102,6 +104,7 @@ fn config(words: &mut Words<'_>) -> Result<Config<Sha256Digest>, Trouble> {
         view_retention,
         skip,
         forward,
+        repair: RepairPolicy::once(),
         track_historical_votes,
     })
 }

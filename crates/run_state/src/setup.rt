@@ -9,7 +9,7 @@ use test_words::{Committee, Trouble, Words};
 use types_core::{Epoch, Participant, Scheme, Sha256Digest, ViewDelta};
 use types_terms::Terms;
 use types_terms::elector::Mode;
-use voter_rules::config::{Config, ForwardPolicy, SkipBudget, SkipPolicy};
+use voter_rules::config::{Config, ForwardPolicy, RepairPolicy, SkipBudget, SkipPolicy};
 
 /// How a voter is set up: `N ME EPOCH L K STALL RETENTION LEADER CERTIFICATION RETRY BUDGET HANDOFF`. ME is `-` for a voter
 /// without a key, STALL for terms of one view without optimism that never stall. HANDOFF is 1: builds are handed off, and no
@@ -60,6 +60,7 @@ fn config(words: &mut Words<'_>, epoch: Epoch) -> Result<Config<Sha256Digest>, T
             budget,
         },
         forward: ForwardPolicy::Disabled,
+        repair: RepairPolicy::once(),
         track_historical_votes: false,
     })
 }

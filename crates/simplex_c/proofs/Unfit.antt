@@ -1,5 +1,7 @@
 -- What numbers don't say, and how that is told.
 use Rattle.std.proofs.Common.{◌≡◌, ◌≢◌, ◌⊎◌, ◌<◌, ◌≤◌, inl, inr, ℕ, List, Bool, true, false, Option, None, Some, arith, subst, sym, refl}
+use Rattle.voter_rules.specs.declared.config.Again.{Again}
+use Rattle.voter_rules.specs.declared.config.Again.TheVariants as again
 use Rattle.voter_rules.specs.declared.config.ForwardPolicy.{ForwardPolicy}
 use Rattle.voter_rules.specs.declared.config.ForwardPolicy.TheVariants as forward
 use Rattle.voter_rules.specs.declared.config.SkipBudget.TheVariants as budget
@@ -13,7 +15,7 @@ use Rattle.cli_settings.specs.Checking.{IsFirst}
 use Rattle.cli_hosted.specs.Statuses.{Names, status_number}
 use Rattle.cli_hosted.specs.declared.status.Status.{Status}
 use Rattle.cli_hosted.specs.declared.status.Status.TheVariants as status
-use Rattle.simplex_c.specs.Settings.{HasFault, HasForm, IsUnfit, SaysConduct, SaysNothing, SaysSeed, SaysSettings, SaysSkip, forward_number, truth_number, unfit_place, unfit_status}
+use Rattle.simplex_c.specs.Settings.{HasFault, HasForm, IsUnfit, SaysConduct, SaysNothing, SaysSeed, SaysSettings, SaysSkip, again_number, forward_number, truth_number, unfit_place, unfit_status}
 use Rattle.simplex_c.specs.declared.settings.SettingsNumbers.{SettingsNumbers}
 use Rattle.simplex_c.specs.declared.settings.Unfit.{Unfit}
 use Rattle.simplex_c.specs.declared.settings.Unfit.TheVariants as unfit
@@ -28,6 +30,10 @@ pub no_forward : (number : ℕ) → 2 < number → (p : ForwardPolicy) → numbe
 no_forward number above forward.Disabled says = absurd (omega (arith, above, says))
 no_forward number above forward.SilentVoters says = absurd (omega (arith, above, says))
 no_forward number above forward.SilentLeader says = absurd (omega (arith, above, says))
+
+pub no_again : (number : ℕ) → 1 < number → (p : Again) → number ≢ again_number p
+no_again number above again.Once says = absurd (omega (arith, above, says))
+no_again number above again.WithNullify says = absurd (omega (arith, above, says))
 
 pub no_truth : (number : ℕ) → 1 < number → (b : Bool) → number ≢ truth_number b
 no_truth number above false says = absurd (omega (arith, above, says))

@@ -1,5 +1,7 @@
 -- What a host's numbers say of how a member is set up.
 use Rattle.std.specs.Prelude.{◌≡◌, ℕ, List, Bool, true, false, Option, None, Some, ⊤}
+use Rattle.voter_rules.specs.declared.config.Again.{Again}
+use Rattle.voter_rules.specs.declared.config.Again.TheVariants as again
 use Rattle.voter_rules.specs.declared.config.ForwardPolicy.{ForwardPolicy}
 use Rattle.voter_rules.specs.declared.config.ForwardPolicy.TheVariants as forward
 use Rattle.voter_rules.specs.declared.config.SkipBudget.TheVariants as budget
@@ -29,11 +31,16 @@ forward_number forward.Disabled = 0
 forward_number forward.SilentVoters = 1
 forward_number forward.SilentLeader = 2
 
+-- whether asks go again, as a number
+abbrev pub again_number : Again → ℕ
+again_number again.Once = 0
+again_number again.WithNullify = 1
+
 module _ (n : SettingsNumbers) where
   -- the caller's struct is the one that this library reads
   pub record HasForm : Type 0 where
-    pub size : n.size ≡ 176
-    pub version : n.version ≡ 1
+    pub size : n.size ≡ 192
+    pub version : n.version ≡ 2
 
   -- the policy of skips that the numbers say
   abbrev pub SaysSkip : SkipPolicy → Type 0
@@ -49,6 +56,8 @@ module _ (n : SettingsNumbers) where
     pub view_retention : c.view_retention ≡ n.retention
     pub skip : SaysSkip c.skip
     pub forward : n.forwarding ≡ forward_number c.forward
+    pub repair : n.repair ≡ again_number c.repair
+    pub repair_window : c.repair_window ≡ n.repair_window
     pub track_historical_votes : n.historical_votes ≡ truth_number c.track_historical_votes
     pub rewrite_views : c.rewrite_views ≡ 0
 

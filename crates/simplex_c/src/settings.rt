@@ -4,26 +4,27 @@ ghost use Rattle.std.specs.Prelude.{◌≡◌, ◌≢◌, Bool, IfErr, IfOk, IfS
 ghost use Rattle.cli_settings.specs.Checking.{IsFirst, IsGood};
 ghost use Rattle.cli_settings.specs.declared.setting.Conduct.{Conduct as Conducting};
 ghost use Rattle.cli_settings.specs.declared.fault.SettingsFault.{SettingsFault};
+ghost use Rattle.voter_rules.specs.declared.config.Again.{Again as Repairing};
 ghost use Rattle.voter_rules.specs.declared.config.ForwardPolicy.{ForwardPolicy as Forwarding};
 ghost use Rattle.voter_rules.specs.declared.config.SkipPolicy.{SkipPolicy as Skipping};
 ghost use Rattle.cli_hosted.specs.Statuses.{Names};
-ghost use Rattle.simplex_c.specs.Settings.{HasForm, IsUnfit, SaysCommittee, SaysConduct, SaysSeed, SaysSettings, SaysSkip, forward_number, truth_number, unfit_place, unfit_status};
+ghost use Rattle.simplex_c.specs.Settings.{HasForm, IsUnfit, SaysCommittee, SaysConduct, SaysSeed, SaysSettings, SaysSkip, again_number, forward_number, truth_number, unfit_place, unfit_status};
 ghost use Rattle.simplex_c.specs.declared.settings.Unfit.TheVariants.{Fault};
 
 use cli_hosted::{Found, Status};
 use cli_settings::{Committee, Conduct, Settings, SettingsFault, Turns};
 use std::alloc::{AllocError, Global};
 use types_core::{Epoch, Sha256Digest, ViewDelta};
-use voter_rules::config::{ForwardPolicy, SkipBudget, SkipPolicy};
+use voter_rules::config::{Again, ForwardPolicy, SkipBudget, SkipPolicy};
 
-/// How many bytes the caller's struct has that this library reads: these numbers, and two pointers each with a length.
-const SIZE: usize = 176;
+/// How many bytes the caller's struct has that this library reads.
+const SIZE: usize = 192;
 
 /// Which form it has.
-const VERSION: u32 = 1;
+const VERSION: u32 = 2;
 
-/// How a member is set up, but for its base and its seed, which come beside it. Any numbers may stand here. A later form is longer, has
-/// a higher version, and begins as this one.
+/// How a member is set up, but for its base and its seed, which come beside it: of where these lie nothing is read here. Any numbers
+/// may stand here. A later form is longer, has a higher version, and begins as this one.
 #[repr(C)]
 #[derive(Clone, Copy)]
 pub struct SettingsNumbers {
@@ -66,6 +67,16 @@ pub struct SettingsNumbers {
     pub skip_budget: u64,
     /// The payload that view 0 stands for.
     pub genesis: [u8; 32],
+    /// Where the base lies, and how many bytes it has.
+    pub base: [usize; 2],
+    /// The same of the seed.
+    pub seed: [usize; 2],
+    /// For how many views to leave behind others are asked at once; 0 for all.
+    pub repair_window: u64,
+    /// 0 where each ask goes once, 1 where asks go again with each repeated nullify.
+    pub repair: u32,
+    /// Nothing.
+    pub unused: u32,
 }
 
 /// Why settings are none that a node can be opened with.
@@ -116,6 +127,19 @@ fn forward_of(numbers: &SettingsNumbers) -> Option<ForwardPolicy>
     }
 }
 
+/// Whether an ask that nothing settled goes again.
+#[tactic(auto, using(crate::proofs::Unfit::no_again))]
+fn again_of(numbers: &SettingsNumbers) -> Option<Again>
+    ensures some { IfSome result (λ policy. numbers.now.repair ≡ again_number policy) }
+    ensures none { IsNone result → (policy : Repairing) → numbers.now.repair ≢ again_number policy }
+{
+    match numbers.repair {
+        0 => Some(Again::Once),
+        1 => Some(Again::WithNullify),
+        _ => None,
+    }
+}
+
 /// A truth value.
 #[tactic(auto, using(crate::proofs::Unfit::no_truth))]
 fn truth_of(number: u32) -> Option<bool>
@@ -136,6 +160,7 @@ fn conduct_of(numbers: &SettingsNumbers) -> Option<Conduct>
 {
     let skip = skip_of(numbers)?;
     let forward = forward_of(numbers)?;
+    let repair = again_of(numbers)?;
     let track_historical_votes = truth_of(numbers.historical_votes)?;
     Some(Conduct {
         leader_timeout: numbers.leader_timeout,
@@ -144,6 +169,8 @@ fn conduct_of(numbers: &SettingsNumbers) -> Option<Conduct>
         view_retention: ViewDelta::new(numbers.retention),
         skip,
         forward,
+        repair,
+        repair_window: numbers.repair_window,
         track_historical_votes,
         rewrite_views: 0,
     })

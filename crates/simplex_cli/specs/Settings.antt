@@ -10,10 +10,11 @@ use Rattle.voter_rules.specs.declared.config.SkipBudget.TheVariants as budget
 use Rattle.voter_rules.specs.declared.config.SkipPolicy.TheVariants as skip
 use Rattle.voter_rules.specs.declared.floor.Floor.{Floor}
 use Rattle.voter_rules.specs.declared.floor.Floor.TheVariants as floor
+use Rattle.voter_rules.specs.Repairing.{asks_once}
 
 -- the settings, with all times in milliseconds: epoch 0 from a payload of zeros; a second for a leader, two for a verdict, five until a
 -- nullify is repeated; ten views are kept below the last finalized one; a leader that was silent for eight seconds is skipped, in as many
--- terms as there are members; nothing is forwarded, and each vote is kept until its view is dropped
+-- terms as there are members; nothing is forwarded, each ask goes once, and each vote is kept until its view is dropped
 abbrev pub program_config : Config (Floor Committee (List ℕ) ℕ (List ℕ) (List (Attestation (List ℕ))))
 program_config = record {
   epoch = 0;
@@ -24,6 +25,7 @@ program_config = record {
   view_retention = 10;
   skip = skip.Enabled 8000 budget.Participants;
   forward = forward.Disabled;
+  repair = asks_once;
   track_historical_votes = true;
 }
 

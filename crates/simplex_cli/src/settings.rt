@@ -9,7 +9,7 @@ use std::rc::Rc;
 use types_core::{Epoch, Participant, Sha256Digest, TermLength, ViewDelta};
 use types_terms::elector::{Config as Building, Elector, RoundRobin, RoundRobinElector};
 use voter_rules::Floor;
-use voter_rules::config::{Config, ForwardPolicy, SkipBudget, SkipPolicy};
+use voter_rules::config::{Config, ForwardPolicy, RepairPolicy, SkipBudget, SkipPolicy};
 
 /// The base of the namespaces that the program's committees sign in.
 const BASE: &[u8; 7] = b"simplex";
@@ -30,6 +30,7 @@ pub fn config() -> Config<Floor<PlainScheme, Sha256Digest>>
             budget: SkipBudget::Participants,
         },
         forward: ForwardPolicy::Disabled,
+        repair: RepairPolicy::once(),
         track_historical_votes: true,
     }
 }

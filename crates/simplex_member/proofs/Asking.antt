@@ -3,7 +3,7 @@ use Rattle.std.proofs.Common.{◌≡◌, ◌⊎◌, inl, inr, ⊎_elim, ℕ, ◌
 use Rattle.std.specs.Prelude.{Contains, ◌||◌, option_map, option_to_list}
 use Rattle.std.proofs.lemmas.Bool.{cases_lt, eqb-true}
 use Rattle.std.proofs.lemmas.List.Elements.{Contains-append_cases, Contains-append_left}
-use Rattle.types_quorum.specs.Counting.{Contains-head, Contains-nil, Contains-rest}
+use Rattle.types_quorum.specs.Counting.{Contains-cases, Contains-head, Contains-nil, Contains-rest}
 use Rattle.types_core.specs.declared.position.Round.{Round}
 use Rattle.types_core.specs.declared.scheme.Scheme.{Ghosts}
 use Rattle.types_core.specs.Positions.{HasRoom, term_end}
@@ -25,7 +25,9 @@ use Rattle.simplex_resolver.specs.declared.ask.Kind as repair
 use Rattle.simplex_resolver.specs.declared.ask.Kind.TheVariants as repair_kind
 use Rattle.simplex_resolver.specs.RepairHistory as repair_history
 use Rattle.simplex_resolver.specs.RepairHistory.{Item, certificate_view, has_failed, item_of}
+use Rattle.simplex_member.specs.declared.asked.Asked.{Asked}
 use Rattle.simplex_member.specs.Allowed.{Allowed, AreAllowed, IsSought, MayRecord}
+use Rattle.simplex_member.specs.Asked.{asks_of}
 use Rattle.simplex_member.specs.Layers.{known_of, notarization_bytes, repair_found, repair_items, repair_of}
 use Rattle.simplex_member.specs.Laws.{RecordLaws}
 use Rattle.simplex_member.specs.Packet.{Formats}
@@ -225,7 +227,23 @@ module _ {S D P G C : Type 0} (g : Ghosts S D P G C) (f : Formats S D P G C) (s 
         sought
     sought-low view ask (Some target) sought = missing-low sought.1 sought.0 view sought.3
 
-  -- a view that is asked for
-  pub asked-low : RecordLaws g → EachHistoryMatches S D P G C → (h : History S D P G C) → AreAllowed g f s h → AreSmall (record_of h) → (view : ℕ) (ask : Ask) (to : Option ℕ) → Allowed g f s h (Asks view ask to) → view < 2 ^ 64
-  asked-low grows law [] all small view ask to a = absurd (apart a.order)
-  asked-low grows law (q ∷ h) all small view ask to a = sought-low grows law q h all small view ask to a.due.sought
+  module _ (grows : RecordLaws g) (law : EachHistoryMatches S D P G C) where
+    -- a view that is asked for, where those are that were before
+    low-behind : (h : History S D P G C) → AreAllowed g f s h → AreSmall (record_of h) → ((x : Asked) → Contains (asks_of h) x → x.view < 2 ^ 64) → (view : ℕ) (ask : Ask) (to : Option ℕ) → Allowed g f s h (Asks view ask to) → view < 2 ^ 64
+    low-behind [] all small before view ask to a = absurd (apart a.order)
+    low-behind (q ∷ h) all small before view ask to a = ⊎_elim
+        (λ sought. sought-low grows law q h all small view ask to sought)
+        (λ pending. before (record { view = view; ask = ask; to = to }) pending.1)
+        a.due.sought
+
+    asks-low : (h : History S D P G C) → AreAllowed g f s h → AreSmall (record_of h) → (x : Asked) → Contains (asks_of h) x → x.view < 2 ^ 64
+    asks-low [] all small x here = absurd (Contains-nil x here)
+    asks-low (Asks view ask to ∷ h) all small x here = ⊎_elim
+        (λ is. subst (λ (y : Asked). y.view < 2 ^ 64) is (low-behind h all.1 (before-small (Asks view ask to) h small) (asks-low h all.1 (before-small (Asks view ask to) h small)) view ask to all.0))
+        (λ before. asks-low h all.1 (before-small (Asks view ask to) h small) x before)
+        (Contains-cases {X = Asked} (record { view = view; ask = ask; to = to }) (asks_of h) x here)
+    asks-low (p ∷ h) all small x here = asks-low h all.1 (before-small p h small) x here
+
+    -- a view that is asked for
+    pub asked-low : (h : History S D P G C) → AreAllowed g f s h → AreSmall (record_of h) → (view : ℕ) (ask : Ask) (to : Option ℕ) → Allowed g f s h (Asks view ask to) → view < 2 ^ 64
+    asked-low h all small view ask to a = low-behind h all small (asks-low h all small) view ask to a

@@ -277,7 +277,8 @@ module _ {S D P G C : Type 0} (g : Ghosts S D P G C) (f : Formats S D P G C) (s 
 
   asks-still : NoAskIsDue g f s h → NoAskIsDue g f s (Rewrote c ∷ h)
   asks-still none = record {
-    no_ask = λ view ask due. none.no_ask view ask (record { sought = sought view ask due.sought; first = due.first });
+    no_ask = λ view ask due. none.no_ask view ask (record { sought = ⊎_elim (λ first. inl (sought view ask first)) (λ pending. inr pending) due.sought; first = due.first; within = due.within });
+    none_again = λ view ask target pending due. none.none_again view ask target pending (record { sought = inr pending; first = due.first; within = due.within });
     none_put_off = λ view u off. none.none_put_off view u (was (λ k. IsPutOff (member_of s) k view u) (put-off (member_of s) (known_of s h) high low view u) off);
     none_missing = λ left view u kind lacking. none.none_missing left view u kind (was (λ k. IsMissing (member_of s) k view kind u) (missing (member_of s) (known_of s h) high low view kind u) lacking);
   }

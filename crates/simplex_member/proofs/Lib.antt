@@ -69,3 +69,4 @@ mod Three
 mod Above
 mod Stands
 mod Based
+mod Asks

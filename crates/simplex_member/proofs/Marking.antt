@@ -1,9 +1,9 @@
 -- What stays, of what acts do: that a verdict was put off, that a view was given up or voted for, that something was asked for.
-use Rattle.std.proofs.Common.{◌≡◌, ◌⊎◌, inl, inr, ⊎_elim, ℕ, ◌≤◌, ◌<◌, ◌||◌, Bool, true, false, List, [], ◌∷◌, ◌++◌, Option, Some, None, refl, sym, ◌∙◌, ap, subst, arith}
+use Rattle.std.proofs.Common.{◌≡◌, ◌⊎◌, inl, inr, ⊎_elim, ℕ, ◌≤◌, ◌<◌, ◌||◌, ◌&&◌, Bool, true, false, List, [], ◌∷◌, ◌++◌, Option, Some, None, refl, sym, ◌∙◌, ap, subst, arith}
 use Rattle.std.specs.Prelude.{Contains, IsSome, if◌then◌else◌, is_some}
 use Rattle.std.specs.Option.{option_or}
 use Rattle.std.proofs.lemmas.Bool.{cases_lt, le-ltb, lt-ltb}
-use Rattle.types_quorum.specs.Counting.{Contains-rest}
+use Rattle.types_quorum.specs.Counting.{Contains-cases, Contains-head, Contains-nil, Contains-rest}
 use Rattle.voter_history.specs.declared.timeout_reason.TimeoutReason.{TimeoutReason}
 use Rattle.voter_history.specs.Known.{waits}
 use Rattle.voter_history.specs.Past as past
@@ -12,8 +12,9 @@ use Rattle.voter_history.specs.Pasts.{put}
 use Rattle.voter_history.specs.History as views
 use Rattle.voter_history.specs.History.{current, is_marked, last_finalized, min_active, pruned, seen}
 use Rattle.simplex_member.specs.declared.asked.Asked.{Asked}
-use Rattle.simplex_member.specs.Asked.{asks_of, next_number}
-use Rattle.simplex_member.specs.Point.{Point, AsksBuild, AsksVerify, Asks, History}
+use Rattle.simplex_member.specs.Asked.{asks_now, asks_of, goes_again, next_number, sent_of, was_repeated}
+use Rattle.simplex_member.specs.Point.{Point, Opened, Told, AsksBuild, AsksVerify, Asks, History, is_act}
+use Rattle.simplex_member.specs.Setup.{Setup}
 use Rattle.simplex_member.proofs.Lists.{same-number}
 use Rattle.simplex_member.proofs.Staying.{low-stays}
 use Rattle.simplex_member.proofs.Telling.{apart}
@@ -115,6 +116,26 @@ module _ {S D P G C : Type 0} where
   number-rises (AsksVerify number context p) h = omega arith
   number-rises p h = omega arith
 
-  pub asks-stay : (p : Point S D P G C) (h : History S D P G C) (x : Asked) → Contains (asks_of h) x → Contains (asks_of (p ∷ h)) x
-  asks-stay (Asks view ask to) h x here = Contains-rest {X = Asked} (record { view = view; ask = ask; to = to }) (asks_of h) x here
-  asks-stay p h x here = here
+  -- what was asked since the time was told last stays so through acts, and went out for now
+  pub asks-stay : (p : Point S D P G C) (h : History S D P G C) (x : Asked) → is_act p ≡ true → Contains (asks_now h) x → Contains (asks_now (p ∷ h)) x
+  asks-stay (Opened now) h x own here = absurd (apart own)
+  asks-stay (Told now) h x own here = absurd (apart own)
+  asks-stay (Asks view ask to) h x own here = Contains-rest {X = Asked} (record { view = view; ask = ask; to = to }) (asks_now h) x here
+  asks-stay p h x own here = here
+
+  now-asked : (h : History S D P G C) (x : Asked) → Contains (asks_now h) x → Contains (asks_of h) x
+  now-asked [] x here = here
+  now-asked (Opened now ∷ h) x here = absurd (Contains-nil x here)
+  now-asked (Told now ∷ h) x here = absurd (Contains-nil x here)
+  now-asked (Asks view ask to ∷ h) x here = ⊎_elim
+      (λ is. subst (λ (y : Asked). Contains (asks_of (Asks view ask to ∷ h)) y) is (Contains-head {X = Asked} (record { view = view; ask = ask; to = to }) (asks_of h)))
+      (λ before. Contains-rest {X = Asked} (record { view = view; ask = ask; to = to }) (asks_of h) x (now-asked h x before))
+      (Contains-cases {X = Asked} (record { view = view; ask = ask; to = to }) (asks_now h) x here)
+  now-asked (p ∷ h) x here = now-asked h x here
+
+  pub now-sent : (s : Setup S D C) (h : History S D P G C) (x : Asked) → Contains (asks_now h) x → Contains (sent_of s h) x
+  now-sent s h x here = go (goes_again s.repair.again && was_repeated h)
+    where
+      go : (b : Bool) → Contains (if b then asks_now h else asks_of h) x
+      go true = here
+      go false = now-asked h x here

@@ -26,7 +26,7 @@ use Rattle.batcher_verifier.specs.History.{Certified, Led, Forwarded, forwardabl
 use Rattle.batcher_verifier.specs.ConstructionResult.{IsBatch, after}
 use Rattle.simplex_member.specs.declared.asked.Asked.{Asked}
 use Rattle.simplex_member.specs.Allowed.{Allowed, AreAllowed}
-use Rattle.simplex_member.specs.Asked.{asks_of, build_at, next_number}
+use Rattle.simplex_member.specs.Asked.{asks_now, build_at, next_number}
 use Rattle.simplex_member.specs.Doing.{Doing, doing, doings, of_view, numbers, returns, seeks, resolves, takes_in, leads, forwards, makes, judges, latches, polls, repeats, certifies, puts_off}
 use Rattle.simplex_member.specs.Doing.{votes as casts}
 use Rattle.simplex_member.specs.Layers.{all_votes, current_of, is_begun, latest, passes_over, skips, stage, voter_of, voter_points, votes_of, IsUp, Stage}
@@ -44,7 +44,7 @@ use Rattle.simplex_member.proofs.Constructing.{quorum-some}
 use Rattle.simplex_member.proofs.Lacking.{WasResolved, resolved-before, resolved-now, resolved-stays}
 use Rattle.simplex_member.proofs.Lists.{same-number, some-is}
 use Rattle.simplex_member.proofs.Lone.{act-latest, latest-early}
-use Rattle.simplex_member.proofs.Marking.{IsLatched, asked-still, asks-stay, final-low, finalized-still, latched-new, latched-still, marks-stay, notarized-still, nullified-still, number-rises, polled-here, put-here, some-apart, vacant}
+use Rattle.simplex_member.proofs.Marking.{IsLatched, asked-still, asks-stay, final-low, finalized-still, latched-new, latched-still, marks-stay, notarized-still, now-sent, nullified-still, number-rises, polled-here, put-here, some-apart, vacant}
 use Rattle.simplex_member.proofs.Peace.{find-there}
 use Rattle.simplex_member.proofs.Pigeons.{Apart, In}
 use Rattle.simplex_member.proofs.Raising.{acts-head, acts-rest}
@@ -86,7 +86,7 @@ module _ {S D P G C : Type 0} (g : Ghosts S D P G C) (f : Formats S D P G C) (s 
   Done h (of_view puts_off view) = (view < min_active s.voter (voter_of s h)) ⊎ (is_marked s.voter waits (voter_of s h) view ≡ true)
   Done h (numbers number) = number < next_number h
   Done h (returns number) = (number < next_number h) × (build_at h number ≡ None)
-  Done h (seeks view ask to) = Contains (asks_of h) (record { view = view; ask = ask; to = to })
+  Done h (seeks view ask to) = Contains (asks_now h) (record { view = view; ask = ask; to = to })
   Done h (resolves view u) = WasResolved s h view u
   Done h takes_in = ⊥
 
@@ -238,7 +238,7 @@ module _ {S D P G C : Type 0} (g : Ghosts S D P G C) (f : Formats S D P G C) (s 
     done-now (GivesBack number view) h all a own = (standing-below h all number (a.due.0, a.due.1) a.due.2, ap (λ (b : Bool). if b then None else build_at h number) (same-number number number refl))
     done-now (LeavesBehind number) h all a own = (standing-below h all number (a.due.0, a.due.1) a.due.2, ap (λ (b : Bool). if b then None else build_at h number) (same-number number number refl))
     done-now (PutsOff view) h all a own = inr (ap (λ (b : Bool). b || is_marked s.voter waits (voter_of s h) view) (same-number view view refl))
-    done-now (Asks view ask to) h all a own = Contains-head {X = Asked} (record { view = view; ask = ask; to = to }) (asks_of h)
+    done-now (Asks view ask to) h all a own = Contains-head {X = Asked} (record { view = view; ask = ask; to = to }) (asks_now h)
     done-now (Resolves view kind u) h all a own = resolved-now s h view kind u a.due.missing
     done-now (Votes (vote.Notarize v)) h all a own = unless-here (λ l. past.has_notarized l ≡ true) (Votes (vote.Notarize v) ∷ h) v.proposal.round.view past.voted_notarize (seen s.voter (voter_of s h) v.proposal.round.view) (now-put v.proposal.round.view past.voted_notarize h) refl
     done-now (Votes (vote.Nullify v)) h all a own = unless-here (λ l. past.has_nullified l ≡ true) (Votes (vote.Nullify v) ∷ h) v.round.view past.voted_nullify (seen s.voter (voter_of s h) v.round.view) (now-put v.round.view past.voted_nullify h) refl
@@ -318,7 +318,7 @@ module _ {S D P G C : Type 0} (g : Ghosts S D P G C) (f : Formats S D P G C) (s 
     done-stays p h all a own (of_view puts_off view) done = marks-stay s.voter (voter_points s (latest (p ∷ h)) (last_finalized (voter_of s h)) p) (voter_of s h) view done
     done-stays p h all a own (numbers number) done = numbered-stays p h number done
     done-stays p h all a own (returns number) done = (numbered-stays p h number done.0, gone-stays p h number a done.0 done.1)
-    done-stays p h all a own (seeks view ask to) done = asks-stay p h (record { view = view; ask = ask; to = to }) done
+    done-stays p h all a own (seeks view ask to) done = asks-stay p h (record { view = view; ask = ask; to = to }) own done
     done-stays p h all a own (resolves view u) done = resolved-stays s g f p h view u own a done
     done-stays p h all a own takes_in done = absurd done
 
@@ -363,7 +363,7 @@ module _ {S D P G C : Type 0} (g : Ghosts S D P G C) (f : Formats S D P G C) (s 
         let above = a.due.due.waits.opens.above in
         let kept = floor-final h view (omega (arith, above)) in
         ⊎_elim (λ low. absurd (omega (arith, low, kept))) (λ mark. apart (sym a.due.due.first ∙ mark)) done
-    done-bars (Asks view ask to) h all a own done = a.due.first (inr done)
+    done-bars (Asks view ask to) h all a own done = a.due.first (inr (now-sent s h (record { view = view; ask = ask; to = to }) done))
     done-bars (Resolves view kind u) h all a own done = resolved-before s h view kind u a.due.missing done
     done-bars (Votes (vote.Notarize v)) h all a own done = known-false past.has_notarized h v.proposal.round.view a.due.0.kept.1 a.due.0.first done
     done-bars (Votes (vote.Nullify v)) h all a own done = known-false past.has_nullified h v.round.view (floor-current h v.round.view (omega (arith, a.due.0))) a.due.2 done

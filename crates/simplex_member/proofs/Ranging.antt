@@ -26,7 +26,9 @@ use Rattle.voter_laws.specs.Matching.{EachHistoryMatches}
 use Rattle.batcher_verifier.specs.History.{accepted}
 use Rattle.simplex_batcher.specs.Queries.{is_nullify}
 use Rattle.simplex_resolver.specs.declared.ask.Ask.{Ask}
+use Rattle.simplex_member.specs.declared.asked.Asked.{Asked}
 use Rattle.simplex_member.specs.Allowed.{Allowed, AreAllowed, HasReason, IsSought, LeaderGaveUp}
+use Rattle.simplex_member.specs.Asked.{asks_of}
 use Rattle.simplex_member.specs.Doing.{IsAmong, doing, doings}
 use Rattle.simplex_member.specs.Laws.{RecordLaws}
 use Rattle.simplex_member.specs.Layers.{all_votes, current_of, floor_of, is_begun, stage, voter_of, votes_of, IsUp}
@@ -144,6 +146,18 @@ module _ {S D P G C : Type 0} (g : Ghosts S D P G C) (f : Formats S D P G C) (s 
         asked-of h view ask None sought = tt
         asked-of h view ask (Some target) sought = subst (λ (o : Option ℕ). IfSome o (λ i. i < n)) sought.4 (leader-below s.voter n s.me by.own member by.named (voter_of s h) sought.1)
 
+        -- who is asked, where those are members who were before
+        asked-behind : (h : History S D P G C) → ((x : Asked) → Contains (asks_of h) x → IfSome x.to (λ i. i < n)) → (view : ℕ) (ask : Ask) (to : Option ℕ) → Allowed g f s h (Asks view ask to) → IfSome to (λ i. i < n)
+        asked-behind h before view ask to a = ⊎_elim (λ sought. asked-of h view ask to sought) (λ pending. before (record { view = view; ask = ask; to = to }) pending.1) a.due.sought
+
+        all-asked : (h : History S D P G C) → AreAllowed g f s h → (x : Asked) → Contains (asks_of h) x → IfSome x.to (λ i. i < n)
+        all-asked [] all x here = absurd (Contains-nil x here)
+        all-asked (Asks view ask to ∷ h) all x here = ⊎_elim
+            (λ is. subst (λ (y : Asked). IfSome y.to (λ i. i < n)) is (asked-behind h (all-asked h all.1) view ask to all.0))
+            (λ before. all-asked h all.1 x before)
+            (Contains-cases {X = Asked} (record { view = view; ask = ask; to = to }) (asks_of h) x here)
+        all-asked (p ∷ h) all x here = all-asked h all.1 x here
+
         up-low : (h : History S D P G C) (view : ℕ) → IsUp (stage s h view) → view < 2 ^ 64
         up-low h view up = room-small s.voter.length view terms (stage-room s h view up)
 
@@ -170,7 +184,7 @@ module _ {S D P G C : Type 0} (g : Ghosts S D P G C) (f : Formats S D P G C) (s 
         act-among (GivesBack number view) h all a own = tt
         act-among (LeavesBehind number) h all a own = tt
         act-among (PutsOff view) h all a own = room-small s.voter.length view terms a.due.due.waits.opens.room
-        act-among (Asks view ask to) h all a own = (asked-low g f s grows law h all (small-record h all) view ask to a, asked-of h view ask to a.due.sought)
+        act-among (Asks view ask to) h all a own = (asked-low g f s grows law h all (small-record h all) view ask to a, asked-behind h (all-asked h all) view ask to a)
         act-among (Resolves view kind u) h all a own = room-small s.voter.length view terms (missing-room s h view kind u a.due.missing)
         act-among (Votes (vote.Notarize v)) h all a own = room-small s.voter.length v.proposal.round.view terms a.due.0.room
         act-among (Votes (vote.Nullify v)) h all a own = subst (λ (k : ℕ). k < 2 ^ 64) (sym a.due.0) (current-low h all a.order)

@@ -39,7 +39,7 @@ use Rattle.simplex_resolver.specs.declared.ask.Ask.{Ask}
 use Rattle.simplex_resolver.specs.declared.ask.Kind as repair
 use Rattle.simplex_resolver.specs.declared.ask.Kind.TheVariants as repair_kind
 use Rattle.simplex_resolver.specs.Outstanding.{IsOutstanding}
-use Rattle.simplex_member.specs.Asked.{HasNumber, IsAnswered, IsAwaited, ancestry, backfill, build_at, check_at, last_heard, next_number}
+use Rattle.simplex_member.specs.Asked.{HasNumber, IsAnswered, IsAwaited, IsInWindow, IsPending, IsSent, ancestry, backfill, build_at, check_at, last_heard, next_number}
 use Rattle.simplex_member.specs.Layers.{current_of, finalized_of, is_begun, known_of, latest, reason_of, repair_of, stage, voter_of, votes_of, votes_setup, Collected, IsUp}
 use Rattle.simplex_member.specs.Packet.{Formats, IsRecordable}
 use Rattle.simplex_member.specs.Point.{Outcome, Counts, Falls, Passes, Point, Opened, Found, Began, Told, Heard, Came, Wanted, Built, Checked, Judged, Leads, Forwards, Constructs, Latches, Polls, AsksBuild, AsksVerify, AsksCertify, GivesBack, LeavesBehind, PutsOff, Asks, Resolves, Votes, Repeats, Rewrote, History}
@@ -162,10 +162,12 @@ module _ {S D P G C : Type 0} (g : Ghosts S D P G C) (f : Formats S D P G C) (s 
   IsSought h view ask (Some target) = (kind : repair.Kind) × (proposal : ℕ)
       × (ask ≡ ancestry kind) × IsMissing (member_of s) (known_of s h) proposal kind view × (leader s.voter (voter_of s h) proposal ≡ Some target)
 
-  -- an ask is due: it is sought, not settled, and wasn't sent to the same before
+  -- an ask is due: it is sought, or stands, is not settled, and wasn't sent to the same before, or goes again; and a view to leave behind
+  -- is among the first of those. What is put off or resolved waits for none of that: asks for it are in no window
   pub record AskIsDue (h : History S D P G C) (view : ℕ) (ask : Ask) (to : Option ℕ) : Type 0 where
-    pub sought : IsSought h view ask to
-    pub first : ¬ IsAnswered f s h view ask to
+    pub sought : IsSought h view ask to ⊎ IsPending h view ask to
+    pub first : ¬ IsSent f s h view ask to
+    pub within : ask ≡ backfill → IsInWindow f s h view
 
   -- a verdict is put off: what it waits for was asked for, where that isn't there
   pub record MayPutOff (h : History S D P G C) (view : ℕ) : Type 0 where

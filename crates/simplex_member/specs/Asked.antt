@@ -1,5 +1,5 @@
 -- What a node asked for, and what of it stands.
-use Rattle.std.specs.Prelude.{◌≡◌, ◌⊎◌, ◌==◌, ◌+◌, ◌<◌, ◌-◌, ◌^◌, ℕ, Bool, true, List, [], ◌∷◌, Contains, Option, Some, None, if◌then◌else◌}
+use Rattle.std.specs.Prelude.{◌≡◌, ◌⊎◌, ◌↔◌, ◌==◌, ◌&&◌, ◌+◌, ◌<◌, ◌-◌, ◌^◌, ℕ, Bool, true, false, List, [], ◌∷◌, length, AllPairs, Contains, Option, Some, None, IfSome, if◌then◌else◌}
 use Rattle.types_core.specs.declared.context.Context.{Context}
 use Rattle.types_core.specs.declared.position.Round.{Round}
 use Rattle.types_core.specs.declared.proposal.Proposal.{Proposal}
@@ -9,11 +9,15 @@ use Rattle.simplex_resolver.specs.declared.ask.Kind as repair
 use Rattle.simplex_resolver.specs.declared.ask.Kind.TheVariants as repair_kind
 use Rattle.simplex_resolver.specs.declared.ask.Until.TheVariants as until
 use Rattle.simplex_resolver.specs.Answers.{is_settled}
+use Rattle.simplex_resolver.specs.Outstanding.{IsOutstanding}
+use Rattle.simplex_resolver.specs.RepairHistory.{Item}
 use Rattle.simplex_record.specs.Record.{entries, HasJudged}
 use Rattle.simplex_member.specs.declared.asked.Asked.{Asked}
+use Rattle.voter_rules.specs.declared.config.Again.{Again}
+use Rattle.voter_rules.specs.declared.config.Again.TheVariants as again
 use Rattle.simplex_member.specs.Layers.{finalized_of, latest, repair_of}
 use Rattle.simplex_member.specs.Packet.{Formats}
-use Rattle.simplex_member.specs.Point.{Opened, Heard, Built, Checked, AsksBuild, AsksVerify, AsksCertify, GivesBack, LeavesBehind, Asks, History}
+use Rattle.simplex_member.specs.Point.{Opened, Told, Heard, Built, Checked, AsksBuild, AsksVerify, AsksCertify, GivesBack, LeavesBehind, Asks, Repeats, History}
 use Rattle.simplex_member.specs.Recorded.{kept_of}
 use Rattle.simplex_member.specs.Setup.{Setup}
 
@@ -23,6 +27,16 @@ backfill = record { kind = repair_kind.Nullification; until = until.Floor }
 
 abbrev pub ancestry : repair.Kind → Ask
 ancestry kind = record { kind = kind; until = until.Finalization }
+
+-- asks go again with a repeated nullify
+abbrev pub goes_again : Again → Bool
+goes_again again.Once = false
+goes_again again.WithNullify = true
+
+-- the views below this one that are to be repaired, ascending
+pub record AreLower (views : ℕ) (r : List Item) (view : ℕ) (lower : List ℕ) : Type 0 where
+  pub exact : (u : ℕ) → Contains lower u ↔ (IsOutstanding views r u × (u < view))
+  pub ascend : AllPairs (λ (u w : ℕ). u < w) lower
 
 module _ {S D P G C : Type 0} where
   -- how many numbers were used since the opening: the next one
@@ -81,3 +95,41 @@ module _ {S D P G C : Type 0} where
   abbrev pub IsAnswered : Formats S D P G C → Setup S D C → History S D P G C → ℕ → Ask → Option ℕ → Type 0
   IsAnswered f s h view ask to = (is_settled s.voter.length (repair_of f h) view ask.kind ≡ true)
       ⊎ Contains (asks_of h) (record { view = view; ask = ask; to = to })
+
+  -- ---- what goes again
+
+  -- what other members were asked since the time was told last
+  abbrev pub asks_now : History S D P G C → List Asked
+  asks_now [] = []
+  asks_now (Opened now ∷ h) = []
+  asks_now (Told now ∷ h) = []
+  asks_now (Asks view ask to ∷ h) = record { view = view; ask = ask; to = to } ∷ asks_now h
+  asks_now (p ∷ h) = asks_now h
+
+  -- a nullify was repeated since then
+  abbrev pub was_repeated : History S D P G C → Bool
+  was_repeated [] = false
+  was_repeated (Opened now ∷ h) = false
+  was_repeated (Told now ∷ h) = false
+  was_repeated (Repeats v best ∷ h) = true
+  was_repeated (p ∷ h) = was_repeated h
+
+  -- the asks that went out for now: all since the opening; or those since the time was told last, where asks go again with a repeated
+  -- nullify and one was repeated since then
+  abbrev pub sent_of : Setup S D C → History S D P G C → List Asked
+  sent_of s h = if goes_again s.repair.again && was_repeated h then asks_now h else asks_of h
+
+  -- this went out for now, to this member or to all; or nothing is left to be asked
+  abbrev pub IsSent : Formats S D P G C → Setup S D C → History S D P G C → ℕ → Ask → Option ℕ → Type 0
+  IsSent f s h view ask to = (is_settled s.voter.length (repair_of f h) view ask.kind ≡ true)
+      ⊎ Contains (sent_of s h) (record { view = view; ask = ask; to = to })
+
+  -- this was asked since the opening, until a finalization: it stands until that or a certificate settles it
+  abbrev pub IsPending : History S D P G C → ℕ → Ask → Option ℕ → Type 0
+  IsPending h view ask to = (ask.until ≡ until.Finalization) × Contains (asks_of h) (record { view = view; ask = ask; to = to })
+
+  -- ---- how much is asked for at once
+
+  -- the view is among the first that are to be repaired, as many as are asked for at once
+  abbrev pub IsInWindow : Formats S D P G C → Setup S D C → History S D P G C → ℕ → Type 0
+  IsInWindow f s h view = IfSome s.repair.window (λ most. (lower : List ℕ) × AreLower s.voter.length (repair_of f h) view lower × (length lower < most))

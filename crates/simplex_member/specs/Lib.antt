@@ -15,3 +15,4 @@ pub mod Lives
 pub mod Laws
 pub mod Floors
 pub mod Sent
+pub mod Repairing

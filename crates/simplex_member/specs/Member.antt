@@ -23,7 +23,7 @@ use Rattle.simplex_member.specs.declared.action.Reply.{Reply}
 use Rattle.simplex_member.specs.declared.event.Event.{Event}
 use Rattle.simplex_member.specs.declared.event.Event.TheVariants as event
 use Rattle.simplex_member.specs.Allowed.{Allowed, AskIsDue, IsGivenBack, IsSilent, LatchIsDue, RetryIsKnown}
-use Rattle.simplex_member.specs.Asked.{HasNumber, build_at}
+use Rattle.simplex_member.specs.Asked.{HasNumber, IsPending, build_at}
 use Rattle.simplex_member.specs.Deeds.{Deed, Wakes, AreActions, all_deeds}
 use Rattle.simplex_member.specs.First.{IsFirst}
 use Rattle.simplex_member.specs.Layers.{current_of, known_of, latest, stage, voter_of, votes_of, votes_setup, Collected, IsUp}
@@ -99,6 +99,7 @@ module _ {S D P G C : Type 0} (g : Ghosts S D P G C) (f : Formats S D P G C) (s 
   -- nothing is to be asked of other members. Of a proposal's leader nothing is said once all numbers are used up
   pub record NoAskIsDue (h : History S D P G C) : Type 0 where
     pub no_ask : (view : ℕ) (ask : Ask) → ¬ AskIsDue g f s h view ask None
+    pub none_again : (view : ℕ) (ask : Ask) (target : ℕ) → IsPending h view ask (Some target) → ¬ AskIsDue g f s h view ask (Some target)
     pub none_put_off : (view required : ℕ) → ¬ IsPutOff (member_of s) (known_of s h) view required
     pub none_missing : HasNumber h → (view u : ℕ) (kind : repair.Kind) → ¬ IsMissing (member_of s) (known_of s h) view kind u
 

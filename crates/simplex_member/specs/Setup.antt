@@ -6,6 +6,7 @@ use Rattle.messages_certificates.specs.ProposalCertificate.{Finalization}
 use Rattle.simplex_record.specs.declared.owner.Owner.{Owner}
 use Rattle.voter_rules.specs.declared.config.Config.{Config}
 use Rattle.voter_rules.specs.declared.config.ForwardPolicy.{ForwardPolicy}
+use Rattle.voter_rules.specs.declared.config.RepairPolicy.{RepairPolicy}
 use Rattle.voter_rules.specs.declared.config.SkipPolicy.{SkipPolicy}
 use Rattle.voter_rules.specs.declared.config.SkipPolicy.TheVariants as skip
 use Rattle.voter_rules.specs.declared.floor.Floor.{Floor}
@@ -27,6 +28,8 @@ pub record Setup (S D C : Type 0) : Type 0 where
   pub forward : ForwardPolicy
   -- votes are kept in full for good
   pub tracks : Bool
+  -- how it asks for what it lacks
+  pub repair : RepairPolicy
 
 -- for how long a leader may be silent
 abbrev pub silence_of : SkipPolicy → Option ℕ
@@ -53,7 +56,8 @@ module _ {S D C : Type 0} where
   IsInTime s now = now + longest_timeout s < 2 ^ 64
 
 -- Two setups of one member: its scheme, by which the members are known, its index, its epoch, the length of terms, the payload at the start,
--- where both bring it, and whom the elector names are fixed for good. All else may differ from one of its nodes to the next
+-- where both bring it, and whom the elector names are fixed for good. All else, as how it repairs, may differ from one of its nodes to the
+-- next
 pub record IsOfOneMember {S D C : Type 0} (s other : Setup S D C) : Type 0 where
   pub scheme : other.voter.scheme ≡ s.voter.scheme
   pub me : other.me ≡ s.me
@@ -96,4 +100,5 @@ module _ {S L D P G C : Type 0} where
     silence = silence_of config.skip;
     forward = config.forward;
     tracks = config.track_historical_votes;
+    repair = config.repair;
   }

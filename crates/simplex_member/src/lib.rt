@@ -7,6 +7,7 @@ mod event;
 mod fault;
 mod laws;
 mod refusal;
+mod repairing;
 mod sent;
 mod speaks;
 
@@ -31,5 +32,8 @@ pub use laws::{
     what_is_made_may_be_recorded,
 };
 pub use refusal::Refusal;
+pub use repairing::{
+    asks_are_in_their_window, asks_go_again_with_nullifies, nothing_else_waits_for_asks,
+};
 pub use sent::{none_stays_unsent, sent_votes_were_due};
 pub use speaks::Speaks;

@@ -1,18 +1,16 @@
 -- What effects leave of the outstanding views.
 use Rattle.std.specs.Prelude.{map, max, nat_lt, nat_le, not, ◌||◌, ◌&&◌}
-use Rattle.std.proofs.Common.{◌≡◌, ◌⊎◌, inl, inr, ⊎_elim, ◌↔◌, ◌≤◌, ◌<◌, ◌==◌, ◌+◌, ℕ, Bool, true, false, List, [], ◌∷◌, ◌++◌, refl, sym, subst, ◌∙◌, ap, arith, if◌then◌else◌}
+use Rattle.std.proofs.Common.{◌≡◌, ◌⊎◌, inl, inr, ⊎_elim, ◌↔◌, ◌≤◌, ◌<◌, ◌==◌, ◌+◌, ◌-◌, ℕ, Bool, true, false, List, [], ◌∷◌, ◌++◌, refl, sym, subst, ◌∙◌, ap, arith, if◌then◌else◌}
 use Rattle.std.proofs.lemmas.Bool.{cases_eq, cases_lt}
 use Rattle.std.proofs.lemmas.Bool.Decides.{nat_tests}
-use Rattle.types_core.specs.Positions.{term_start, term_end, next_term_start, IsTermStart}
+use Rattle.types_core.specs.Positions.{term_start, term_end, IsTermStart}
 use Rattle.simplex_resolver.specs.declared.effect.Effect.{Effect}
 use Rattle.simplex_resolver.specs.declared.effect.Effect.TheVariants as effect
-use Rattle.simplex_resolver.specs.declared.ask.Kind.TheVariants as kind
 use Rattle.simplex_resolver.specs.RepairHistory.{Item, Nullified, Notarized, Finalized, Judged, Replayed, finalized, floor, current, live, covered, covers, has_failed}
-use Rattle.simplex_resolver.specs.Outstanding.{IsOutstanding, AreAnchors, AreMissing, Scans, ScansBehind, Gives, Apply, ApplyAll, EffectsLeaveTheOutstanding, fetch, fetches, fetch_failed, is_missing, scanned, scan_start, settled_notarization, settled_nullifications, start_behind, term_start_from, when}
-use Rattle.simplex_resolver.proofs.Anchors.{passed-one}
+use Rattle.simplex_resolver.specs.Outstanding.{IsOutstanding, AreBare, AreMissing, IsFetched, Scans, ScansBehind, Gives, Apply, ApplyAll, EffectsLeaveTheOutstanding, fetch, fetch_failed, is_missing, scanned, scan_start, settled_notarization, settled_nullifications, start_behind, term_start_from, when}
 use Rattle.simplex_resolver.proofs.Choices.{bool_cases, or_cases, or_right, max_zero, nat_lt-yes, nat_lt-no, nat_le-yes, nat_le-no}
-use Rattle.simplex_resolver.proofs.Covers.{finalized-floor}
-use Rattle.simplex_resolver.proofs.TermStarts.{start-end, next-IsTermStart, next_term_start-gt, start_behind-ge, scan_start-gt, term_start_from-IsTermStart, term_start_from-least}
+use Rattle.simplex_resolver.proofs.Covers.{covered-on, finalized-floor}
+use Rattle.simplex_resolver.proofs.TermStarts.{start-end, term_start-ge, scan_start-gt, term_start_from-IsTermStart, term_start_from-least}
 
 -- the view is one of the list
 abbrev Among : List ℕ → ℕ → Type 0
@@ -29,59 +27,112 @@ at_or_behind a v le = elim (cases_lt a v) [
   | inr ge ↦ inl (omega (arith, le, ge))
 ]
 
-anchors-are : (views now a : ℕ) → 0 < views → (xs : List ℕ) → AreAnchors views now a xs → (v : ℕ) → Among xs v ↔ IsAnchor views now a v
-anchors-are views now a some [] past v = (
-  λ never. absurd never,
-  λ is. absurd (let below = is.0 in ⊎_elim (λ e. omega (arith, e, past, below)) (λ behind. let gt = behind.0 in omega (arith, gt, past, below)) is.1),
-)
-anchors-are views now a some (x ∷ xs) are v =
-    let rest = anchors-are views now (next_term_start views a) some xs are.2 v in
-    let gt = next_term_start-gt views some a in (
-      λ among. ⊎_elim (λ e. let first = are.0 in let lt = are.1 in (omega (arith, e, first, lt), inl (omega (arith, e, first))))
-          (λ later. let is = rest.0 later in (is.0, inr (⊎_elim (λ e. (omega (arith, e, gt), rw e (next-IsTermStart views some a))) (λ behind. (let far = behind.0 in omega (arith, far, gt), behind.1)) is.1))) among,
-      λ is. ⊎_elim (λ e. inl (let first = are.0 in omega (arith, e, first)))
-          (λ behind. inr (rest.1 (is.0, ⊎_elim inl (λ far. inr (far, behind.1)) (at_or_behind (next_term_start views a) v (start_behind-ge views some a v behind.0 behind.1))))) is.1,
-    )
+-- the view is one of those that are fetched of some spans
+abbrev InSpans : ℕ → List (ℕ × ℕ) → ℕ → Type 0
+InSpans views [] v = ⊥
+InSpans views (span ∷ spans) v = IsFetched views span.0 span.1 v ⊎ InSpans views spans v
+
+module _ (views : ℕ) (some : 0 < views) (h : List Item) (now : ℕ) where
+  -- a view that isn't covered, behind one that is, starts a term
+  starts : (u v : ℕ) → u + 1 ≡ v → covered views h u ≡ true → covered views h v ≡ false → IsTermStart views v
+  starts u v next is bare = elim (cases_lt (term_start views v) v) [
+    | inl lt ↦ absurd (
+        let within = (start-end views some v u).0 (omega (arith, lt, next)) in
+        let never = covered-on views some h u v (omega (arith, next)) within is in
+        grind (arith, never, bare))
+    | inr ge ↦ let le = term_start-ge views some v in omega (arith, ge, le)
+  ]
+
+  -- what is fetched of spans are the anchors that are not covered
+  spans-to-anchors : (a : ℕ) (spans : List (ℕ × ℕ)) → AreBare views h a now spans → (v : ℕ) → InSpans views spans v → IsAnchor views now a v × (covered views h v ≡ false)
+  spans-to-anchors a [] all v is = absurd is
+  spans-to-anchors a (span ∷ spans) are v (inl f) =
+      let bare = are.0 in
+      let start = bare.start in
+      let low = bare.below in
+      let from = f.0 in
+      let up = f.1 in
+      let none = bare.within v from up in
+      let first : v ≡ span.0 → (v ≡ a) ⊎ ((a < v) × IsTermStart views v) = λ e. elim (cases_lt a v) [
+        | inl gt ↦ inr (gt, starts (v - 1) v (omega (arith, gt)) (bare.before (v - 1) (omega (arith, gt)) (omega (arith, e, gt))) none)
+        | inr le ↦ inl (omega (arith, e, le, start))
+      ] in
+      let later : IsTermStart views v → (v ≡ a) ⊎ ((a < v) × IsTermStart views v) = λ term.
+      ⊎_elim (λ e. inl e) (λ gt. inr (gt, term)) (at_or_behind a v (omega (arith, start, from))) in
+      ((omega (arith, up, low), ⊎_elim first later f.2), none)
+  spans-to-anchors a (span ∷ spans) are v (inr rest) =
+      let bare = are.0 in
+      let start = bare.start in
+      let filled = bare.some in
+      let r = spans-to-anchors (span.1 + 1) spans are.1 v rest in
+      let below = r.0.0 in
+      let none = r.1 in (
+        (
+          below,
+          ⊎_elim
+              (λ e. absurd (
+              let is = bare.behind (omega (arith, e, below)) in
+              let never = rw e at none in
+              grind (arith, is, never)))
+              (λ behind. inr ((let gt = behind.0 in omega (arith, gt, filled, start)), behind.1)) r.0.1,
+        ),
+        none,
+      )
+
+  anchors-to-spans : (a : ℕ) (spans : List (ℕ × ℕ)) → AreBare views h a now spans → (v : ℕ) → IsAnchor views now a v → covered views h v ≡ false → InSpans views spans v
+  anchors-to-spans a [] all v is bare = absurd (
+      let from : a ≤ v = ⊎_elim (λ e. omega (arith, e)) (λ behind. let gt = behind.0 in omega (arith, gt)) is.1 in
+      let never = all v from is.0 in
+      grind (arith, never, bare))
+  anchors-to-spans a (span ∷ spans) are v is none =
+      let bare = are.0 in
+      let start = bare.start in
+      let filled = bare.some in
+      let from : a ≤ v = ⊎_elim (λ e. omega (arith, e)) (λ behind. let gt = behind.0 in omega (arith, gt)) is.1 in
+      elim (cases_lt v span.0) [
+        | inl before ↦ absurd (let never = bare.before v from before in grind (arith, never, none))
+        | inr on ↦ elim (cases_lt span.1 v) [
+          | inl past ↦
+              let term : IsTermStart views v = ⊎_elim (λ e. absurd (omega (arith, e, past, filled, start))) (λ behind. behind.1) is.1 in
+              inr (anchors-to-spans (span.1 + 1) spans are.1 v (is.0, ⊎_elim (λ e. inl e) (λ gt. inr (gt, term)) (at_or_behind (span.1 + 1) v (omega (arith, past)))) none)
+          | inr to ↦ inl (on, to, ⊎_elim (λ e. inl (omega (arith, e, start, on))) (λ behind. inr behind.1) is.1)
+        ]
+      ]
 
 -- effects in two parts
-append-to : (xs ys : List Effect) (P : ℕ → Type 0) (v : ℕ) → ApplyAll (xs ++ ys) P v → ApplyAll ys (λ w. ApplyAll xs P w) v
-append-to [] ys P v a = a
-append-to (x ∷ xs) ys P v a = append-to xs ys (Apply x P) v a
+module _ (views : ℕ) where
+  append-to : (xs ys : List Effect) (P : ℕ → Type 0) (v : ℕ) → ApplyAll views (xs ++ ys) P v → ApplyAll views ys (λ w. ApplyAll views xs P w) v
+  append-to [] ys P v a = a
+  append-to (x ∷ xs) ys P v a = append-to xs ys (Apply views x P) v a
 
-append-from : (xs ys : List Effect) (P : ℕ → Type 0) (v : ℕ) → ApplyAll ys (λ w. ApplyAll xs P w) v → ApplyAll (xs ++ ys) P v
-append-from [] ys P v a = a
-append-from (x ∷ xs) ys P v a = append-from xs ys (Apply x P) v a
+  append-from : (xs ys : List Effect) (P : ℕ → Type 0) (v : ℕ) → ApplyAll views ys (λ w. ApplyAll views xs P w) v → ApplyAll views (xs ++ ys) P v
+  append-from [] ys P v a = a
+  append-from (x ∷ xs) ys P v a = append-from xs ys (Apply views x P) v a
 
-module _ (views : ℕ) (h : List Item) (cause : ℕ) where
-  asked-first : (x : ℕ) (xs : List ℕ) → covered views h x ≡ false → fetches views h cause (x ∷ xs) ≡ fetch cause x ∷ fetches views h cause xs
-  asked-first x xs bare = ap (λ (b : Bool). if b then fetches views h cause xs else fetch cause x ∷ fetches views h cause xs) bare
+  -- fetches of spans add what is fetched of them
+  spans-to : (cause : ℕ) (spans : List (ℕ × ℕ)) (P : ℕ → Type 0) (v : ℕ) → ApplyAll views (map (fetch cause) spans) P v → P v ⊎ InSpans views spans v
+  spans-to cause [] P v a = inl a
+  spans-to cause (x ∷ xs) P v a = ⊎_elim (λ q. ⊎_elim (λ p. inl p) (λ f. inr (inl f)) q) (λ later. inr (inr later)) (spans-to cause xs (Apply views (fetch cause x) P) v a)
 
-  -- fetches add the anchors that are not covered
-  fetches-to : (xs : List ℕ) (P : ℕ → Type 0) (v : ℕ) → ApplyAll (fetches views h cause xs) P v → P v ⊎ (Among xs v × (covered views h v ≡ false))
-  fetches-to [] P v a = inl a
-  fetches-to (x ∷ xs) P v a = elim (bool_cases (covered views h x)) [
-    | inl is ↦ ⊎_elim inl (λ r. inr (inr r.0, r.1)) (fetches-to xs P v (subst (λ (es : List Effect). ApplyAll es P v) (passed-one views h cause x xs is) a))
-    | inr bare ↦ ⊎_elim (λ q. ⊎_elim inl (λ e. inr (inl e, rw e bare)) q) (λ r. inr (inr r.0, r.1)) (fetches-to xs (Apply (fetch cause x) P) v (subst (λ (es : List Effect). ApplyAll es P v) (asked-first x xs bare) a))
-  ]
+  spans-from : (cause : ℕ) (spans : List (ℕ × ℕ)) (P : ℕ → Type 0) (v : ℕ) → P v ⊎ InSpans views spans v → ApplyAll views (map (fetch cause) spans) P v
+  spans-from cause [] P v a = ⊎_elim (λ p. p) (λ never. absurd never) a
+  spans-from cause (x ∷ xs) P v a = spans-from cause xs (Apply views (fetch cause x) P) v (⊎_elim (λ p. inl (inl p)) (λ r. ⊎_elim (λ f. inl (inr f)) (λ later. inr later) r) a)
 
-  fetches-from : (xs : List ℕ) (P : ℕ → Type 0) (v : ℕ) → P v ⊎ (Among xs v × (covered views h v ≡ false)) → ApplyAll (fetches views h cause xs) P v
-  fetches-from [] P v a = ⊎_elim (λ p. p) (λ r. absurd r.0) a
-  fetches-from (x ∷ xs) P v a = elim (bool_cases (covered views h x)) [
-    | inl is ↦ subst (λ (es : List Effect). ApplyAll es P v) (sym (passed-one views h cause x xs is)) (fetches-from xs P v (⊎_elim inl (λ r. ⊎_elim (λ e. absurd (covered-apart x v is e r.1)) (λ later. inr (later, r.1)) r.0) a))
-    | inr bare ↦ subst (λ (es : List Effect). ApplyAll es P v) (sym (asked-first x xs bare)) (fetches-from xs (Apply (fetch cause x) P) v (⊎_elim (λ p. inl (inl p)) (λ r. ⊎_elim (λ e. inl (inr e)) (λ later. inr (later, r.1)) r.0) a))
-  ]
-    where
-      covered-apart : (x v : ℕ) → covered views h x ≡ true → v ≡ x → covered views h v ≡ false → ⊥
-      covered-apart x v is e bare = let other = rw e at bare in grind (arith, is, other)
+  -- of a single view that is fetched
+  one-to : (x v : ℕ) → IsFetched views x x v → v ≡ x
+  one-to x v f = let from = f.0 in let up = f.1 in omega (arith, from, up)
 
--- fetches of views with a false verdict add these
-failed-to : (xs : List ℕ) (P : ℕ → Type 0) (v : ℕ) → ApplyAll (map fetch_failed xs) P v → P v ⊎ Among xs v
-failed-to [] P v a = inl a
-failed-to (x ∷ xs) P v a = ⊎_elim (λ q. ⊎_elim inl (λ e. inr (inl e)) q) (λ later. inr (inr later)) (failed-to xs (Apply (fetch_failed x) P) v a)
+  one-from : (x v : ℕ) → v ≡ x → IsFetched views x x v
+  one-from x v e = (omega (arith, e), omega (arith, e), inl e)
 
-failed-from : (xs : List ℕ) (P : ℕ → Type 0) (v : ℕ) → P v ⊎ Among xs v → ApplyAll (map fetch_failed xs) P v
-failed-from [] P v a = ⊎_elim (λ p. p) (λ never. absurd never) a
-failed-from (x ∷ xs) P v a = failed-from xs (Apply (fetch_failed x) P) v (⊎_elim (λ p. inl (inl p)) (λ r. ⊎_elim (λ e. inl (inr e)) inr r) a)
+  -- fetches of views with a false verdict add these
+  failed-to : (xs : List ℕ) (P : ℕ → Type 0) (v : ℕ) → ApplyAll views (map fetch_failed xs) P v → P v ⊎ Among xs v
+  failed-to [] P v a = inl a
+  failed-to (x ∷ xs) P v a = ⊎_elim (λ q. ⊎_elim (λ p. inl p) (λ f. inr (inl (one-to x v f))) q) (λ later. inr (inr later)) (failed-to xs (Apply views (fetch_failed x) P) v a)
+
+  failed-from : (xs : List ℕ) (P : ℕ → Type 0) (v : ℕ) → P v ⊎ Among xs v → ApplyAll views (map fetch_failed xs) P v
+  failed-from [] P v a = ⊎_elim (λ p. p) (λ never. absurd never) a
+  failed-from (x ∷ xs) P v a = failed-from xs (Apply views (fetch_failed x) P) v (⊎_elim (λ p. inl (inl p)) (λ r. ⊎_elim (λ e. inl (inr (one-from x v e))) (λ later. inr later) r) a)
 
 module _ (views : ℕ) (h : List Item) where
   missing-to : (a : ℕ) (xs : List ℕ) → AreMissing views h a xs → (v : ℕ) → Among xs v → (a < v) × (is_missing views h v ≡ true)
@@ -217,22 +268,22 @@ module _ (views : ℕ) (some : 0 < views) (h : List Item) (x : Item) where
     outstanding-left : (v : ℕ) → IsOutstanding views h v → level < v → covered views (x ∷ h) v ≡ false → Q v
     outstanding-left v o above bare = (left v).1 (o, above, bare)
 
-    scan-leaves : (v : ℕ) → ApplyAll asked Q v ↔ IsOutstanding views (x ∷ h) v
+    scan-leaves : (v : ℕ) → ApplyAll views asked Q v ↔ IsOutstanding views (x ∷ h) v
     scan-leaves v = elim (bool_cases (live (x ∷ h))) [
       | inl is ↦
           let sc : Scans views (x ∷ h) cause start asked = rw is at scans in
-          let anchors = anchors-are views (current (x ∷ h)) start some sc.anchors sc.are v in (
+          let now = current (x ∷ h) in (
             λ a. ⊎_elim (left-outstanding v) (λ r.
-                let anchor = anchors.0 r.0 in
-                let due = anchor-due v anchor in
-                record { live_is = is; above = due.0; bare = r.1; due = inl (anchor.0, due.1) }) (fetches-to views (x ∷ h) cause sc.anchors Q v (subst (λ (es : List Effect). ApplyAll es Q v) sc.asked_is a)),
-            λ o. subst (λ (es : List Effect). ApplyAll es Q v) (sym sc.asked_is) (fetches-from views (x ∷ h) cause sc.anchors Q v (⊎_elim
-                (λ anchor. ⊎_elim (λ here. inr (anchors.1 here, o.bare)) (λ was. inl (outstanding-left v was o.above o.bare)) (due-anchor v anchor.0 o.above (was_bare views h x v o.bare) anchor.1))
+                let anchor = spans-to-anchors views some (x ∷ h) now start sc.spans sc.are v r in
+                let due = anchor-due v anchor.0 in
+                record { live_is = is; above = due.0; bare = anchor.1; due = inl (anchor.0.0, due.1) }) (spans-to views cause sc.spans Q v (subst (λ (es : List Effect). ApplyAll views es Q v) sc.asked_is a)),
+            λ o. subst (λ (es : List Effect). ApplyAll views es Q v) (sym sc.asked_is) (spans-from views cause sc.spans Q v (⊎_elim
+                (λ anchor. ⊎_elim (λ here. inr (anchors-to-spans views some (x ∷ h) now start sc.spans sc.are v here o.bare)) (λ was. inl (outstanding-left v was o.above o.bare)) (due-anchor v anchor.0 o.above (was_bare views h x v o.bare) anchor.1))
                 (λ failed. inl (outstanding-left v (record { live_is = sym live_same ∙ is; above = (let floors = floor-rises h x in let above = o.above in omega (arith, floors, above)); bare = was_bare views h x v o.bare; due = inr (sym (failed_same v) ∙ failed) }) o.above o.bare)) o.due)),
           )
       | inr dead ↦
           let none : asked ≡ [] = rw dead at scans in (
-            λ a. left-outstanding v (subst (λ (es : List Effect). ApplyAll es Q v) none a),
+            λ a. left-outstanding v (subst (λ (es : List Effect). ApplyAll views es Q v) none a),
             λ o. absurd (let on = o.live_is in grind (arith, on, dead)),
           )
     ]
@@ -246,10 +297,10 @@ when-no true e is = absurd (grind (arith, is))
 when-no false e is = refl
 
 -- the parts of what an item gives
-parts : (P : ℕ → Type 0) (Goal : ℕ → Type 0) (first asked given : List Effect) → given ≡ first ++ asked → ((v : ℕ) → ApplyAll asked (λ w. ApplyAll first P w) v ↔ Goal v) → (v : ℕ) → ApplyAll given P v ↔ Goal v
-parts P Goal first asked given e law v = (
-  λ a. (law v).0 (append-to first asked P v (subst (λ (es : List Effect). ApplyAll es P v) e a)),
-  λ o. subst (λ (es : List Effect). ApplyAll es P v) (sym e) (append-from first asked P v ((law v).1 o)),
+parts : (views : ℕ) (P : ℕ → Type 0) (Goal : ℕ → Type 0) (first asked given : List Effect) → given ≡ first ++ asked → ((v : ℕ) → ApplyAll views asked (λ w. ApplyAll views first P w) v ↔ Goal v) → (v : ℕ) → ApplyAll views given P v ↔ Goal v
+parts views P Goal first asked given e law v = (
+  λ a. (law v).0 (append-to views first asked P v (subst (λ (es : List Effect). ApplyAll views es P v) e a)),
+  λ o. subst (λ (es : List Effect). ApplyAll views es P v) (sym e) (append-from views first asked P v ((law v).1 o)),
 )
 
 module _ (views : ℕ) (some : 0 < views) (h : List Item) where
@@ -260,17 +311,17 @@ module _ (views : ℕ) (some : 0 < views) (h : List Item) where
   same_floor = max_zero (floor h)
 
   -- a nullification settles what it covers
-  nullified-left : (u : ℕ) (bytes : List ℕ) (v : ℕ) → ApplyAll (when (nat_lt (finalized h) (term_end views u)) (settled_nullifications u (term_end views u))) P v ↔ (P v × (floor (Nullified u bytes ∷ h) < v) × (covered views (Nullified u bytes ∷ h) v ≡ false))
+  nullified-left : (u : ℕ) (bytes : List ℕ) (v : ℕ) → ApplyAll views (when (nat_lt (finalized h) (term_end views u)) (settled_nullifications u (term_end views u))) P v ↔ (P v × (floor (Nullified u bytes ∷ h) < v) × (covered views (Nullified u bytes ∷ h) v ≡ false))
   nullified-left u bytes v = elim (cases_lt (finalized h) (term_end views u)) [
     | inl late ↦
         let yes = when-yes (nat_lt (finalized h) (term_end views u)) (settled_nullifications u (term_end views u)) (nat_lt-yes _ _ late) in (
-          λ a. let b : P v × ((v < u) ⊎ (term_end views u < v)) = subst (λ (es : List Effect). ApplyAll es P v) yes a in (b.0, above b.0, apart b.0 b.1),
-          λ l. subst (λ (es : List Effect). ApplyAll es P v) (sym yes) (l.0, outside l.2),
+          λ a. let b : P v × ((v < u) ⊎ (term_end views u < v)) = subst (λ (es : List Effect). ApplyAll views es P v) yes a in (b.0, above b.0, apart b.0 b.1),
+          λ l. subst (λ (es : List Effect). ApplyAll views es P v) (sym yes) (l.0, outside l.2),
         )
     | inr early ↦
         let no_more = when-no (nat_lt (finalized h) (term_end views u)) (settled_nullifications u (term_end views u)) (nat_lt-no _ _ early) in (
-          λ a. let p : P v = subst (λ (es : List Effect). ApplyAll es P v) no_more a in (p, above p, apart p (inr (let low = finalized-floor h in let over = p.above in omega (arith, early, low, over)))),
-          λ l. subst (λ (es : List Effect). ApplyAll es P v) (sym no_more) l.0,
+          λ a. let p : P v = subst (λ (es : List Effect). ApplyAll views es P v) no_more a in (p, above p, apart p (inr (let low = finalized-floor h in let over = p.above in omega (arith, early, low, over)))),
+          λ l. subst (λ (es : List Effect). ApplyAll views es P v) (sym no_more) l.0,
         )
   ]
     where
@@ -300,41 +351,41 @@ module _ (views : ℕ) (some : 0 < views) (h : List Item) where
       ]
 
   -- a notarization changes nothing
-  notarized-left : (test : Bool) (w v : ℕ) → ApplyAll (when test (settled_notarization w)) P v ↔ (P v × (floor (Notarized w ∷ h) < v) × (covered views (Notarized w ∷ h) v ≡ false))
+  notarized-left : (test : Bool) (w v : ℕ) → ApplyAll views (when test (settled_notarization w)) P v ↔ (P v × (floor (Notarized w ∷ h) < v) × (covered views (Notarized w ∷ h) v ≡ false))
   notarized-left true w v = (λ p. (p, let over = p.above in omega (arith, over, same_floor), p.bare), λ l. l.0)
   notarized-left false w v = (λ p. (p, let over = p.above in omega (arith, over, same_floor), p.bare), λ l. l.0)
 
   -- what is raised takes out all up to the new floor
-  raised-left : (w v : ℕ) (Q : ℕ → Type 0) → (Q v → P v) → (P v → max w (floor h) < v → Q v) → ApplyAll (when (nat_lt (floor h) w) (effect.Raised w)) Q v ↔ (P v × (max w (floor h) < v) × (covered views h v ≡ false))
+  raised-left : (w v : ℕ) (Q : ℕ → Type 0) → (Q v → P v) → (P v → max w (floor h) < v → Q v) → ApplyAll views (when (nat_lt (floor h) w) (effect.Raised w)) Q v ↔ (P v × (max w (floor h) < v) × (covered views h v ≡ false))
   raised-left w v Q to from = elim (cases_lt (floor h) w) [
     | inl up ↦
         let yes = when-yes (nat_lt (floor h) w) (effect.Raised w) (nat_lt-yes _ _ up) in (
-          λ a. let b : Q v × (w < v) = subst (λ (es : List Effect). ApplyAll es Q v) yes a in let p = to b.0 in (p, let over = p.above in let far = b.1 in grind (arith, nat_tests, over, far), p.bare),
-          λ l. subst (λ (es : List Effect). ApplyAll es Q v) (sym yes) (from l.0 l.1, let over = l.1 in grind (arith, nat_tests, over)),
+          λ a. let b : Q v × (w < v) = subst (λ (es : List Effect). ApplyAll views es Q v) yes a in let p = to b.0 in (p, let over = p.above in let far = b.1 in grind (arith, nat_tests, over, far), p.bare),
+          λ l. subst (λ (es : List Effect). ApplyAll views es Q v) (sym yes) (from l.0 l.1, let over = l.1 in grind (arith, nat_tests, over)),
         )
     | inr low ↦
         let no_more = when-no (nat_lt (floor h) w) (effect.Raised w) (nat_lt-no _ _ low) in (
-          λ a. let q : Q v = subst (λ (es : List Effect). ApplyAll es Q v) no_more a in let p = to q in (p, let over = p.above in grind (arith, nat_tests, over, low), p.bare),
-          λ l. subst (λ (es : List Effect). ApplyAll es Q v) (sym no_more) (from l.0 l.1),
+          λ a. let q : Q v = subst (λ (es : List Effect). ApplyAll views es Q v) no_more a in let p = to q in (p, let over = p.above in grind (arith, nat_tests, over, low), p.bare),
+          λ l. subst (λ (es : List Effect). ApplyAll views es Q v) (sym no_more) (from l.0 l.1),
         )
   ]
 
   -- a finalization, too
-  finalized-left : (w : ℕ) (bytes : List ℕ) (v : ℕ) → ApplyAll (effect.Finalized (finalized (Finalized w bytes ∷ h)) ∷ when (nat_lt (floor h) w) (effect.Raised w)) P v ↔ (P v × (floor (Finalized w bytes ∷ h) < v) × (covered views (Finalized w bytes ∷ h) v ≡ false))
-  finalized-left w bytes v = raised-left w v (Apply (effect.Finalized (finalized (Finalized w bytes ∷ h))) P) (λ q. q.0) (λ p over. (p, let low = finalized-floor h in grind (arith, nat_tests, over, low)))
+  finalized-left : (w : ℕ) (bytes : List ℕ) (v : ℕ) → ApplyAll views (effect.Finalized (finalized (Finalized w bytes ∷ h)) ∷ when (nat_lt (floor h) w) (effect.Raised w)) P v ↔ (P v × (floor (Finalized w bytes ∷ h) < v) × (covered views (Finalized w bytes ∷ h) v ≡ false))
+  finalized-left w bytes v = raised-left w v (Apply views (effect.Finalized (finalized (Finalized w bytes ∷ h))) P) (λ q. q.0) (λ p over. (p, let low = finalized-floor h in grind (arith, nat_tests, over, low)))
 
   -- a false verdict adds its view, where it is missing
-  failed-leaves : (w : ℕ) (bytes : List ℕ) (given : List Effect) → Gives views h (Judged w bytes false) given → (v : ℕ) → ApplyAll given P v ↔ IsOutstanding views (Judged w bytes false ∷ h) v
+  failed-leaves : (w : ℕ) (bytes : List ℕ) (given : List Effect) → Gives views h (Judged w bytes false) given → (v : ℕ) → ApplyAll views given P v ↔ IsOutstanding views (Judged w bytes false ∷ h) v
   failed-leaves w bytes given e v = elim (bool_cases test) [
     | inl is ↦
         let yes : given ≡ settled_notarization w ∷ (fetch_failed w ∷ []) = e ∙ ap (λ (es : List Effect). settled_notarization w ∷ es) (when-yes test (fetch_failed w) is) in (
-          λ a. ⊎_elim keeps (adds is) (subst (λ (es : List Effect). ApplyAll es P v) yes a),
-          λ o. subst (λ (es : List Effect). ApplyAll es P v) (sym yes) (⊎_elim inl (λ new. inr new.0) (was o)),
+          λ a. ⊎_elim keeps (λ f. adds is (one-to views w v f)) (subst (λ (es : List Effect). ApplyAll views es P v) yes a),
+          λ o. subst (λ (es : List Effect). ApplyAll views es P v) (sym yes) (⊎_elim (λ p. inl p) (λ new. inr (one-from views w v new.0)) (was o)),
         )
     | inr isnt ↦
         let no_more : given ≡ settled_notarization w ∷ [] = e ∙ ap (λ (es : List Effect). settled_notarization w ∷ es) (when-no test (fetch_failed w) isnt) in (
-          λ a. keeps (subst (λ (es : List Effect). ApplyAll es P v) no_more a),
-          λ o. subst (λ (es : List Effect). ApplyAll es P v) (sym no_more) (⊎_elim (λ p. p) (λ new. absurd (let never = new.1 in grind (arith, never, isnt))) (was o)),
+          λ a. keeps (subst (λ (es : List Effect). ApplyAll views es P v) no_more a),
+          λ o. subst (λ (es : List Effect). ApplyAll views es P v) (sym no_more) (⊎_elim (λ p. p) (λ new. absurd (let never = new.1 in grind (arith, never, isnt))) (was o)),
         )
   ]
     where
@@ -382,21 +433,22 @@ module _ (views : ℕ) (some : 0 < views) (h : List Item) where
               rw (on, nat_lt-yes (floor h) w low, none) refl
 
   -- the end of the replay adds what is due
-  replayed-leaves : (given : List Effect) → Gives views h Replayed given → (v : ℕ) → ApplyAll given P v ↔ IsOutstanding views (Replayed ∷ h) v
+  replayed-leaves : (given : List Effect) → Gives views h Replayed given → (v : ℕ) → ApplyAll views given P v ↔ IsOutstanding views (Replayed ∷ h) v
   replayed-leaves given g v =
       let asked = g.0 in
       let missing = g.1 in
       let sc : Scans views (Replayed ∷ h) (current h) (start_behind views h Replayed) asked = g.2 in
       let m = g.3 in
       let e = g.4 in
-      let anchors = anchors-are views (current (Replayed ∷ h)) (start_behind views h Replayed) some sc.anchors sc.are v in (
+      let now = current (Replayed ∷ h) in
+      let start = start_behind views h Replayed in (
         λ a. ⊎_elim
-            (λ scan. ⊎_elim keeps (λ r. let anchor = anchors.0 r.0 in let due = anchor-due views some h Replayed v anchor in record { live_is = refl; above = due.0; bare = r.1; due = inl (anchor.0, due.1) })
-            (fetches-to views (Replayed ∷ h) (current h) sc.anchors P v (subst (λ (es : List Effect). ApplyAll es P v) sc.asked_is scan)))
+            (λ scan. ⊎_elim keeps (λ r. let anchor = spans-to-anchors views some (Replayed ∷ h) now start sc.spans sc.are v r in let due = anchor-due views some h Replayed v anchor.0 in record { live_is = refl; above = due.0; bare = anchor.1; due = inl (anchor.0.0, due.1) })
+            (spans-to views (current h) sc.spans P v (subst (λ (es : List Effect). ApplyAll views es P v) sc.asked_is scan)))
             (λ among. let is = missing-to views (Replayed ∷ h) (floor (Replayed ∷ h)) missing m v among in let failed = is_missing-failed views (Replayed ∷ h) v is.1 in record { live_is = refl; above = is.0; bare = failed.1; due = inr failed.0 })
-            (failed-to missing (λ w. ApplyAll asked P w) v (append-to asked (map fetch_failed missing) P v (subst (λ (es : List Effect). ApplyAll es P v) e a))),
-        λ o. subst (λ (es : List Effect). ApplyAll es P v) (sym e) (append-from asked (map fetch_failed missing) P v (failed-from missing (λ w. ApplyAll asked P w) v (⊎_elim
-            (λ anchor. inl (subst (λ (es : List Effect). ApplyAll es P v) (sym sc.asked_is) (fetches-from views (Replayed ∷ h) (current h) sc.anchors P v (⊎_elim (λ here. inr (anchors.1 here, o.bare)) inl (due-anchor views some h Replayed v anchor.0 o.above o.bare anchor.1)))))
+            (failed-to views missing (λ w. ApplyAll views asked P w) v (append-to views asked (map fetch_failed missing) P v (subst (λ (es : List Effect). ApplyAll views es P v) e a))),
+        λ o. subst (λ (es : List Effect). ApplyAll views es P v) (sym e) (append-from views asked (map fetch_failed missing) P v (failed-from views missing (λ w. ApplyAll views asked P w) v (⊎_elim
+            (λ anchor. inl (subst (λ (es : List Effect). ApplyAll views es P v) (sym sc.asked_is) (spans-from views (current h) sc.spans P v (⊎_elim (λ here. inr (anchors-to-spans views some (Replayed ∷ h) now start sc.spans sc.are v here o.bare)) (λ p. inl p) (due-anchor views some h Replayed v anchor.0 o.above o.bare anchor.1)))))
             (λ failed. inr (missing-from views (Replayed ∷ h) (floor (Replayed ∷ h)) missing m v o.above (missing-is views (Replayed ∷ h) v failed o.bare))) o.due))),
       )
     where
@@ -408,36 +460,13 @@ module _ (views : ℕ) (some : 0 < views) (h : List Item) where
         due = ⊎_elim (λ anchor. inl ((let low = anchor.0 in let same = max_zero (current h) in omega (arith, low, same)), ⊎_elim (λ e. inl (omega (arith, e, same_floor))) inr anchor.1)) inr p.due;
       }
 
-  leaves : (x : Item) (given : List Effect) → Gives views h x given → (v : ℕ) → ApplyAll given P v ↔ IsOutstanding views (x ∷ h) v
-  leaves (Nullified u bytes) given g = parts P (IsOutstanding views (Nullified u bytes ∷ h)) _ g.0 given g.2 (scan-leaves views some h (Nullified u bytes) refl (λ v. refl) u g.0 g.1 _ (nullified-left u bytes))
-  leaves (Notarized w) given g = parts P (IsOutstanding views (Notarized w ∷ h)) _ g.0 given g.2 (scan-leaves views some h (Notarized w) refl (λ v. refl) w g.0 g.1 _ (notarized-left (nat_lt (finalized h) w && not (has_failed h w)) w))
-  leaves (Finalized w bytes) given g = parts P (IsOutstanding views (Finalized w bytes ∷ h)) (effect.Finalized (finalized (Finalized w bytes ∷ h)) ∷ when (nat_lt (floor h) w) (effect.Raised w)) g.0 given g.2 (scan-leaves views some h (Finalized w bytes) refl (λ v. refl) w g.0 g.1 _ (finalized-left w bytes))
-  leaves (Judged w bytes true) given g = parts P (IsOutstanding views (Judged w bytes true ∷ h)) (settled_notarization w ∷ when (nat_lt (floor h) w) (effect.Raised w)) g.0 given g.2 (scan-leaves views some h (Judged w bytes true) refl (λ v. refl) w g.0 g.1 _ (λ v. raised-left w v P (λ p. p) (λ p over. p)))
+  leaves : (x : Item) (given : List Effect) → Gives views h x given → (v : ℕ) → ApplyAll views given P v ↔ IsOutstanding views (x ∷ h) v
+  leaves (Nullified u bytes) given g = parts views P (IsOutstanding views (Nullified u bytes ∷ h)) _ g.0 given g.2 (scan-leaves views some h (Nullified u bytes) refl (λ v. refl) u g.0 g.1 _ (nullified-left u bytes))
+  leaves (Notarized w) given g = parts views P (IsOutstanding views (Notarized w ∷ h)) _ g.0 given g.2 (scan-leaves views some h (Notarized w) refl (λ v. refl) w g.0 g.1 _ (notarized-left (nat_lt (finalized h) w && not (has_failed h w)) w))
+  leaves (Finalized w bytes) given g = parts views P (IsOutstanding views (Finalized w bytes ∷ h)) (effect.Finalized (finalized (Finalized w bytes ∷ h)) ∷ when (nat_lt (floor h) w) (effect.Raised w)) g.0 given g.2 (scan-leaves views some h (Finalized w bytes) refl (λ v. refl) w g.0 g.1 _ (finalized-left w bytes))
+  leaves (Judged w bytes true) given g = parts views P (IsOutstanding views (Judged w bytes true ∷ h)) (settled_notarization w ∷ when (nat_lt (floor h) w) (effect.Raised w)) g.0 given g.2 (scan-leaves views some h (Judged w bytes true) refl (λ v. refl) w g.0 g.1 _ (λ v. raised-left w v P (λ p. p) (λ p over. p)))
   leaves (Judged w bytes false) given g = failed-leaves w bytes given g
   leaves Replayed given g = replayed-leaves given g
 
 pub effects-leave : EffectsLeaveTheOutstanding
 effects-leave views h x given some gives = leaves views some h x given gives
-
--- an effect, where the same views are outstanding
-Apply-same : (e : Effect) (P Q : ℕ → Type 0) → ((v : ℕ) → P v ↔ Q v) → (v : ℕ) → Apply e P v ↔ Apply e Q v
-Apply-same (effect.Fetch _ _ _) P Q same v = (⊎_elim (λ p. inl ((same v).0 p)) inr, ⊎_elim (λ q. inl ((same v).1 q)) inr)
-Apply-same (effect.Settled kind.Nullification _ _) P Q same v = (λ a. ((same v).0 a.0, a.1), λ a. ((same v).1 a.0, a.1))
-Apply-same (effect.Settled kind.Notarization _ _) P Q same v = same v
-Apply-same (effect.Finalized _) P Q same v = (λ a. ((same v).0 a.0, a.1), λ a. ((same v).1 a.0, a.1))
-Apply-same (effect.Raised _) P Q same v = (λ a. ((same v).0 a.0, a.1), λ a. ((same v).1 a.0, a.1))
-
--- and effects in order
-pub ApplyAll-same : (es : List Effect) (P Q : ℕ → Type 0) → ((v : ℕ) → P v ↔ Q v) → (v : ℕ) → ApplyAll es P v ↔ ApplyAll es Q v
-ApplyAll-same [] P Q same v = same v
-ApplyAll-same (e ∷ es) P Q same v = ApplyAll-same es (Apply e P) (Apply e Q) (Apply-same e P Q same) v
-
--- a set of the outstanding views, to which the effects of an item were applied, is that of those outstanding then
-pub gaps-follow : (views : ℕ) (h : List Item) (x : Item) (given applied : List Effect) (old new : ℕ → Type 0) → 0 < views → applied ≡ given → Gives views h x given → ((v : ℕ) → old v ↔ IsOutstanding views h v) → ((v : ℕ) → new v ↔ ApplyAll applied old v)
-    → (v : ℕ) → new v ↔ IsOutstanding views (x ∷ h) v
-gaps-follow views h x given applied old new some same gives was now v =
-    let outstanding = ApplyAll-same given old (IsOutstanding views h) was v in
-    let law = effects-leave views h x given some gives v in (
-      λ gap. law.0 (outstanding.0 (subst (λ (es : List Effect). ApplyAll es old v) same ((now v).0 gap))),
-      λ due. (now v).1 (subst (λ (es : List Effect). ApplyAll es old v) (sym same) (outstanding.1 (law.1 due))),
-    )

@@ -1,6 +1,7 @@
 pub mod Anchors
 pub mod Choices
 pub mod Covers
+pub mod Gaps
 pub mod Items
 pub mod Keeping
 pub mod Leaving

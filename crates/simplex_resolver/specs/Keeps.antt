@@ -1,5 +1,5 @@
 -- How the state stands to the list of all that came.
-use Rattle.std.specs.Prelude.{◌≡◌, ◌↔◌, ◌≤◌, ◌<◌, ◌&&◌, ℕ, true, nat_lt, List, Option, None, if◌then◌else◌}
+use Rattle.std.specs.Prelude.{◌≡◌, ◌↔◌, ◌≤◌, ◌<◌, ◌+◌, ◌^◌, ◌&&◌, ℕ, true, nat_lt, List, Option, None, if◌then◌else◌}
 use Rattle.std.specs.Ordering.{nat_cmp}
 use Rattle.std.specs.Option.{option_map}
 use Rattle.std.specs.BTreeMap.{get}
@@ -8,10 +8,8 @@ use Rattle.types_core.specs.Positions.{term_end}
 use Rattle.simplex_record.specs.Coverage.{IsCovered}
 use Rattle.simplex_resolver.specs.declared.held.Held.{Held}
 use Rattle.simplex_resolver.specs.declared.scanner.Scanner.{Scanner}
-use Rattle.simplex_resolver.specs.declared.gaps.Gaps.{Gaps}
 use Rattle.simplex_resolver.specs.declared.state.State.{State}
 use Rattle.simplex_resolver.specs.RepairHistory.{Item, finalized, floor, current, live, nullification, finalization, covered, has_failed, is_known}
-use Rattle.simplex_resolver.specs.Outstanding.{IsOutstanding}
 use Rattle.simplex_resolver.specs.Answers.{servable}
 
 -- how many views a term has
@@ -47,14 +45,10 @@ pub record Stands (views : ℕ) (scanner : Scanner) (h : List Item) : Type 0 whe
   pub floor_is : scanner.floor ≡ floor h
   pub live_is : scanner.live ≡ live h
 
--- the view is one of the set
-abbrev pub HasGap : Gaps → ℕ → Type 0
-HasGap gaps v = contains nat_cmp gaps.views v ≡ true
-
--- the state stands where these items lead, and its gaps are the outstanding views
+-- the state stands where these items lead, and behind each view with a false verdict comes another
 pub record Keeps (views : ℕ) (state : State) (h : List Item) : Type 0 where
   pub stands : Stands views state.scanner h
-  pub gaps_are : (v : ℕ) → HasGap state.gaps v ↔ IsOutstanding views h v
+  pub fits : (v : ℕ) → has_failed h v ≡ true → v + 1 < 2 ^ 64
 
 -- what holds of each length of terms and each list of items that the state stands at
 abbrev pub AtEach : State → (ℕ → List Item → Type 0) → Type 0

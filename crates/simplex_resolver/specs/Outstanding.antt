@@ -15,25 +15,34 @@ pub record IsOutstanding (views : ℕ) (h : List Item) (v : ℕ) : Type 0 where
   pub bare : covered views h v ≡ false
   pub due : ((v < current h) × ((v ≡ floor h + 1) ⊎ IsTermStart views v)) ⊎ (has_failed h v ≡ true)
 
--- from a view to the term starts behind it, all that lie below the current view
-abbrev pub AreAnchors : ℕ → ℕ → ℕ → List ℕ → Type 0
-AreAnchors views now a [] = now ≤ a
-AreAnchors views now a (x ∷ xs) = (x ≡ a) × (a < now) × AreAnchors views now (next_term_start views a) xs
+-- a span, from its first view to its last, of views from one on and below another that nothing covers: before it all are covered, and
+-- so is the one behind it
+pub record IsBare (views : ℕ) (h : List Item) (from now : ℕ) (span : ℕ × ℕ) : Type 0 where
+  pub start : from ≤ span.0
+  pub some : span.0 ≤ span.1
+  pub below : span.1 < now
+  pub before : (v : ℕ) → from ≤ v → v < span.0 → covered views h v ≡ true
+  pub within : (v : ℕ) → span.0 ≤ v → v ≤ span.1 → covered views h v ≡ false
+  pub behind : span.1 + 1 < now → covered views h (span.1 + 1) ≡ true
 
--- a view is fetched since a later one has a certificate
-abbrev pub fetch : ℕ → ℕ → Effect
-fetch cause v = effect.Fetch v cause reason.MissingNullification
+-- all such spans, one behind the other
+abbrev pub AreBare : ℕ → List Item → ℕ → ℕ → List (ℕ × ℕ) → Type 0
+AreBare views h from now [] = (v : ℕ) → from ≤ v → v < now → covered views h v ≡ true
+AreBare views h from now (span ∷ spans) = IsBare views h from now span × AreBare views h (span.1 + 1) now spans
 
--- what is fetched of these views: those that are not covered
-abbrev pub fetches : ℕ → List Item → ℕ → List ℕ → List Effect
-fetches views h cause [] = []
-fetches views h cause (x ∷ xs) = if covered views h x then fetches views h cause xs else fetch cause x ∷ fetches views h cause xs
+-- views are fetched since a later one has a certificate: of a span its first, and each later one that starts a term
+abbrev pub fetch : ℕ → ℕ × ℕ → Effect
+fetch cause span = effect.Fetch span.0 span.1 cause reason.MissingNullification
+
+-- the view is one of those that are fetched of a span
+abbrev pub IsFetched : ℕ → ℕ → ℕ → ℕ → Type 0
+IsFetched views first last v = (first ≤ v) × (v ≤ last) × ((v ≡ first) ⊎ IsTermStart views v)
 
 -- a scan from a view asks for this
 pub record Scans (views : ℕ) (h : List Item) (cause start : ℕ) (asked : List Effect) : Type 0 where
-  pub anchors : List ℕ
-  pub are : AreAnchors views (current h) start anchors
-  pub asked_is : asked ≡ fetches views h cause anchors
+  pub spans : List (ℕ × ℕ)
+  pub are : AreBare views h start (current h) spans
+  pub asked_is : asked ≡ map (fetch cause) spans
 
 -- the first term start from a view on
 abbrev pub term_start_from : ℕ → ℕ → ℕ
@@ -70,7 +79,7 @@ AreMissing views h a (x ∷ xs) = (a < x) × (is_missing views h x ≡ true) × 
 
 -- a view is fetched since its verdict was false
 abbrev pub fetch_failed : ℕ → Effect
-fetch_failed v = effect.Fetch v v reason.CertificationFailed
+fetch_failed v = effect.Fetch v v v reason.CertificationFailed
 
 -- asks for the notarization of a view are settled
 abbrev pub settled_notarization : ℕ → Effect
@@ -99,19 +108,19 @@ Gives views h Replayed given = (asked : List Effect) × (missing : List ℕ) × 
     × (given ≡ asked ++ map fetch_failed missing)
 
 -- an effect, applied to the outstanding views
-abbrev pub Apply : Effect → (ℕ → Type 0) → ℕ → Type 0
-Apply (effect.Fetch view cause reason) P v = P v ⊎ (v ≡ view)
-Apply (effect.Settled kind.Nullification start end) P v = P v × ((v < start) ⊎ (end < v))
-Apply (effect.Settled kind.Notarization start end) P v = P v
-Apply (effect.Finalized view) P v = P v × (view < v)
-Apply (effect.Raised view) P v = P v × (view < v)
+abbrev pub Apply : ℕ → Effect → (ℕ → Type 0) → ℕ → Type 0
+Apply views (effect.Fetch first last cause reason) P v = P v ⊎ IsFetched views first last v
+Apply views (effect.Settled kind.Nullification start end) P v = P v × ((v < start) ⊎ (end < v))
+Apply views (effect.Settled kind.Notarization start end) P v = P v
+Apply views (effect.Finalized view) P v = P v × (view < v)
+Apply views (effect.Raised view) P v = P v × (view < v)
 
 -- effects, applied in order
-abbrev pub ApplyAll : List Effect → (ℕ → Type 0) → ℕ → Type 0
-ApplyAll [] P v = P v
-ApplyAll (e ∷ es) P v = ApplyAll es (Apply e P) v
+abbrev pub ApplyAll : ℕ → List Effect → (ℕ → Type 0) → ℕ → Type 0
+ApplyAll views [] P v = P v
+ApplyAll views (e ∷ es) P v = ApplyAll views es (Apply views e P) v
 
 -- the effects of each item, applied in order to the outstanding views, leave exactly those that are outstanding then
 abbrev pub EffectsLeaveTheOutstanding : Type 0
 EffectsLeaveTheOutstanding = (views : ℕ) (h : List Item) (x : Item) (given : List Effect) → 0 < views → Gives views h x given
-    → (v : ℕ) → ApplyAll given (IsOutstanding views h) v ↔ IsOutstanding views (x ∷ h) v
+    → (v : ℕ) → ApplyAll views given (IsOutstanding views h) v ↔ IsOutstanding views (x ∷ h) v

@@ -32,10 +32,12 @@ impl FetchReason {
 /// A change of what is asked for.
 #[derive(Clone, Copy, Debug, PartialEq, Eq)]
 pub enum Effect {
-    /// A nullification that covers the view is asked for.
+    /// Nullifications are asked for that cover the first of these views, and each later one of them that starts a term.
     Fetch {
-        /// The view.
-        view: View,
+        /// The first view.
+        first: View,
+        /// The last view.
+        last: View,
         /// The view of what it follows from.
         cause: View,
         /// Why it is asked for.
@@ -57,12 +59,13 @@ pub enum Effect {
 }
 
 impl Effect {
-    /// The view is fetched since a later one has a certificate.
-    pub(crate) fn fetch(view: View, cause: View) -> Self
-        ensures { result ≡ fetch cause view }
+    /// These views are fetched since a later one has a certificate.
+    pub(crate) fn fetch(first: View, last: View, cause: View) -> Self
+        ensures { result ≡ fetch cause (first, last) }
     {
         Effect::Fetch {
-            view,
+            first,
+            last,
             cause,
             reason: FetchReason::MissingNullification,
         }
@@ -73,7 +76,8 @@ impl Effect {
         ensures { result ≡ fetch_failed view }
     {
         Effect::Fetch {
-            view,
+            first: view,
+            last: view,
             cause: view,
             reason: FetchReason::CertificationFailed,
         }

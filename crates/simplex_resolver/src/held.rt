@@ -1,11 +1,12 @@
 //! The certificates and verdicts that are held for repair, and served.
 
-ghost use Rattle.std.specs.Prelude.{◌≡◌, ◌<◌, ◌≤◌, ◌+◌, ◌^◌, ◌&&◌, ◌∷◌, [], ℕ, List, not, max, nat_lt, nat_le, is_some, if◌then◌else◌, true, false, Option, None, IfOk, OnOk, IfSome, IfNone};
+ghost use Rattle.std.specs.Prelude.{◌≡◌, ◌↔◌, ◌<◌, ◌≤◌, ◌+◌, ◌^◌, ◌&&◌, ◌∷◌, [], ℕ, List, not, max, nat_lt, nat_le, is_some, if◌then◌else◌, true, false, Option, None, IfOk, OnOk, IfSome, IfNone, IsTrue};
 ghost use Rattle.std.specs.Option.{option_map};
 ghost use Rattle.std.specs.Ordering.{nat_cmp};
 ghost use Rattle.std.specs.BTreeMap.{get};
 ghost use Rattle.std.specs.BTreeSet.{contains};
 ghost use Rattle.types_core.specs.Positions.{HasRoom, term_start, term_end};
+ghost use Rattle.simplex_record.specs.Coverage.{AreCoveredBetween, IsCovered, IsFirstUncovered};
 ghost use Rattle.simplex_resolver.specs.RepairHistory.{Nullified, Notarized, Finalized, Judged, finalized, finalization, covered, has_failed, is_known};
 ghost use Rattle.simplex_resolver.specs.Answers.{covering, servable};
 ghost use Rattle.simplex_resolver.specs.Keeps.{Holds, AtEachHeld};
@@ -189,7 +190,7 @@ impl Held {
             (AtEachHeld self.now (λ views h. (v : ℕ) → finalized h < first → first ≤ v → v < end → covered views h v ≡ true)) }
     {
         let before = View::new(first.get() - 1);
-        self.covered.first_uncovered(before, end)
+        self.first_uncovered(before, end)
     }
 
     /// The last view below `end` up to which, from `first` on, no nullification covers any, where none covers `first`.
@@ -208,6 +209,24 @@ impl Held {
         View::new(next.get() - 1)
     }
 
+    /// The first view above `before` and below `end` that lies in no span of covered views.
+    pub(crate) fn first_uncovered(&self, before: View, end: View) -> Option<View>
+        ensures first { IfSome result (λ first. IsFirstUncovered self.now.covered before end first) }
+        ensures none { IfNone result (AreCoveredBetween self.now.covered before end) }
+    {
+        self.covered.first_uncovered(before, end)
+    }
+
+    /// Whether the view lies in no span of covered views.
+    pub(crate) fn is_bare(&self, view: View) -> bool
+        requires some { 0 < view }
+        requires fits { view + 1 < 2 ^ 64 }
+        ensures { IsTrue result ↔ (IsCovered self.now.covered view → ⊥) }
+    {
+        let before = View::new(view.get() - 1);
+        !self.covered.covers_between(before, view.next())
+    }
+
     /// The first view above this one with a false verdict.
     pub(crate) fn next_failed(&self, above: View) -> Option<View>
         ensures above { IfSome result (λ failed. above < failed) }
@@ -215,6 +234,9 @@ impl Held {
         ensures least { IfSome result
             (λ failed. AtEachHeld self.now (λ views h. (v : ℕ) → finalized h ≤ above → above < v → v < failed → has_failed h v ≡ false)) }
         ensures none { IfNone result (AtEachHeld self.now (λ views h. (v : ℕ) → finalized h ≤ above → above < v → has_failed h v ≡ false)) }
+        ensures held { IfSome result (λ failed. contains nat_cmp self.now.failed failed ≡ true) }
+        ensures held_least { IfSome result (λ failed. (v : ℕ) → above < v → v < failed → contains nat_cmp self.now.failed v ≡ false) }
+        ensures held_none { IfNone result ((v : ℕ) → above < v → contains nat_cmp self.now.failed v ≡ false) }
     {
         match self
             .failed

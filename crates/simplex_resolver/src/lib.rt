@@ -3,15 +3,15 @@
 
 mod ask;
 mod effect;
-mod gaps;
 mod held;
 mod laws;
+mod outstanding;
 mod scanner;
 mod state;
 mod terms;
 
 pub use ask::{Ask, Kind, Until};
 pub use effect::{Effect, FetchReason};
-pub use gaps::Outstanding;
 pub use laws::{effects_leave_the_outstanding, what_is_produced_came};
+pub use outstanding::Outstanding;
 pub use state::State;

@@ -1,11 +1,12 @@
 //! What came to a member, and what a scan over it asks for.
 
-ghost use Rattle.std.specs.Prelude.{◌<◌};
+ghost use Rattle.std.specs.Prelude.{◌≡◌, ◌<◌, ◌+◌, ◌^◌, IsTrue, false};
 ghost use Rattle.types_core.specs.Positions.{HasRoom};
+ghost use Rattle.simplex_resolver.specs.Earlier.{earlier};
 
 use crate::effect::{Effect, push_if};
 use crate::held::Held;
-use crate::terms::{scan_start, terms_between};
+use crate::terms::scan_start;
 use messages_certificates::{Certificate, Notarization};
 use std::alloc::{AllocError, Global};
 use types_core::{Digest, Scheme, TermLength, View, Viewable, Write};
@@ -27,12 +28,14 @@ pub(crate) struct Scanner {
 }
 
 impl Scanner {
-    ghost use Rattle.std.specs.Prelude.{◌≡◌, ◌+◌, ◌++◌, ◌∷◌, [], ℕ, List, not, nat_lt, ◌&&◌, OnOk, IfOk, true, false, map};
+    ghost use Rattle.std.specs.Prelude.{◌≡◌, ◌↔◌, ◌⊎◌, ◌≤◌, ◌+◌, ◌-◌, ◌++◌, ◌∷◌, [], ℕ, List, not, nat_lt, ◌&&◌, OnOk, IfOk, IsTrue, true, false, map};
+    ghost use Rattle.types_core.specs.Positions.{IsTermStart, term_index};
     ghost use Rattle.messages_certificates.specs.Certificate.{any_certificate_spelling, certificate_round, as_notarization};
     ghost use Rattle.simplex_resolver.specs.declared.effect.Effect.{Effect};
     ghost use Rattle.simplex_resolver.specs.RepairHistory.{Item, Nullified, Notarized, Finalized, Judged, Replayed, item_of, covered, floor, live};
     ghost use Rattle.simplex_resolver.specs.Outstanding.{Gives, Scans, ScansBehind, AreMissing, fetch_failed, scanned};
     ghost use Rattle.simplex_resolver.specs.Keeps.{Stands, AtEachScan, scan_length};
+    ghost use Rattle.simplex_resolver.specs.Gaps.{IsAnchorGap, IsFailedGap, IsFirstAbove, IsGap};
 
     /// Nothing has come, and the replay has not ended.
     pub(crate) fn new(alloc: Global, term_length: TermLength) -> Self
@@ -271,8 +274,7 @@ impl Scanner {
         Ok(())
     }
 
-    /// Asks for what is missing from the view on, below the highest certificate's view: gap by gap, and term by term in
-    /// each, which has room at once.
+    /// Asks for what is missing from the view on, below the highest certificate's view: gap by gap.
     fn ask_from(
         &self,
         effects: &mut Vec<Effect>,
@@ -283,16 +285,11 @@ impl Scanner {
         ensures { OnOk result (AtEachScan self.now
             (λ views h. (asked : List Effect) × Scans views h cause start asked × (effects.new.items ≡ effects.old.items ++ asked))) }
     {
-        let mut anchor = start;
-        'gaps: while let Some(first) = self.held.first_missing(anchor, self.current) {
+        let mut from = start;
+        'gaps: while let Some(first) = self.held.first_missing(from, self.current) {
             let last = self.held.last_missing(first, self.current);
-            // So much may be missing that only a refusal ends this: it is to come before the work.
-            effects.reserve(terms_between(first, last, self.held.length))?;
-            anchor = first;
-            'terms: while anchor <= last {
-                effects.push(Effect::fetch(anchor, cause))?;
-                anchor = anchor.next_term_start(self.held.length);
-            }
+            effects.push(Effect::fetch(first, last, cause))?;
+            from = last.next();
         }
         Ok(())
     }
@@ -310,4 +307,110 @@ impl Scanner {
         }
         Ok(())
     }
+
+    /// How many terms begin behind that of the floor, up to the highest certificate's view.
+    pub(crate) fn terms_behind_floor(&self) -> u64
+        ensures { result ≡ term_index self.now.held.length self.now.current - term_index self.now.held.length self.now.floor }
+    {
+        let last = self.current.term_index(self.held.length);
+        last.saturating_sub(self.floor.term_index(self.held.length))
+    }
+
+    /// The first view above this one that is to be repaired, by what is held.
+    pub(crate) fn first_gap(&self, last: View) -> Option<View>
+        ensures { IsFirstAbove (IsGap self.now) last result }
+    {
+        if !self.live {
+            return None;
+        }
+        earlier(self.first_anchor(last), self.first_failed(last))
+    }
+
+    /// The first view above this one that no nullification covers, of those that are due since a later one has a certificate.
+    fn first_anchor(&self, last: View) -> Option<View>
+        ensures { IsFirstAbove (IsAnchorGap self.now) last result }
+    {
+        if last >= self.current {
+            return None;
+        }
+        let mut before = self.before_anchors(last);
+        while let Some(first) = self.held.first_uncovered(before, self.current) {
+            if self.is_anchor(first) {
+                return Some(first);
+            }
+            // What a nullification covers reaches to a term's end. So this isn't come to; but no type says so.
+            before = first.term_end(self.held.length);
+        }
+        None
+    }
+
+    /// Up to where behind this view none is due since a later one has a certificate.
+    fn before_anchors(&self, last: View) -> View
+        requires { last < self.now.current }
+        ensures behind { last ≤ result }
+        ensures above { self.now.floor ≤ result }
+        ensures none { (v : ℕ) → last < v → v ≤ result → ¬ IsAnchorGap self.now v }
+    {
+        if last <= self.floor {
+            return self.floor;
+        }
+        last.term_end(self.held.length)
+    }
+
+    /// Whether the view is the first above the floor, or starts a term.
+    fn is_anchor(&self, view: View) -> bool
+        ensures { IsTrue result ↔ ((view ≡ self.now.floor + 1) ⊎ IsTermStart self.now.held.length view) }
+    {
+        view == self.floor.next() || view.is_term_start(self.held.length)
+    }
+
+    /// The first view above this one with a false verdict that no nullification covers.
+    fn first_failed(&self, last: View) -> Option<View>
+        ensures { IsFirstAbove (IsFailedGap self.now) last result }
+    {
+        let mut above = self.before_failed(last);
+        while let Some(view) = self.held.next_failed(above) {
+            if is_last(view) {
+                return None;
+            }
+            if self.held.is_bare(view) {
+                return Some(view);
+            }
+            above = view;
+        }
+        None
+    }
+
+    /// Up to where behind this view none is due for a false verdict.
+    fn before_failed(&self, last: View) -> View
+        ensures behind { last ≤ result }
+        ensures above { self.now.floor ≤ result }
+        ensures none { (v : ℕ) → last < v → v ≤ result → ¬ IsFailedGap self.now v }
+    {
+        if last < self.floor {
+            return self.floor;
+        }
+        last
+    }
+}
+
+/// The earlier of two views, where one is there.
+fn earlier(one: Option<View>, other: Option<View>) -> Option<View>
+    ensures { result ≡ earlier one other }
+{
+    let Some(view) = one else {
+        return other;
+    };
+    match other {
+        Some(second) if second < view => other,
+        _ => one,
+    }
+}
+
+/// Whether no view comes behind this one.
+fn is_last(view: View) -> bool
+    ensures last { IsTrue result → view + 1 ≡ 2 ^ 64 }
+    ensures fits { result ≡ false → view + 1 < 2 ^ 64 }
+{
+    view.get() == u64::MAX
 }

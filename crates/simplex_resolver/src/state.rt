@@ -4,7 +4,7 @@ ghost use Rattle.types_core.specs.Positions.{HasRoom};
 
 use crate::ask::Kind;
 use crate::effect::Effect;
-use crate::gaps::{Gaps, Outstanding};
+use crate::outstanding::Outstanding;
 use crate::scanner::Scanner;
 use messages_certificates::{Certificate, Notarization};
 use std::alloc::{AllocError, Global};
@@ -13,22 +13,21 @@ use types_core::{Digest, Scheme, TermLength, View, Viewable};
 /// The certificates and verdicts that came to a member, what it has to ask for by them, and what it answers to those
 /// who ask it. It asks for nothing before the end of the replay of its record.
 ///
-/// A call costs a logarithm in what is held, for itself and for each of its effects. What is finalized is dropped, once,
-/// and so is each view that is outstanding no more.
+/// A call costs a logarithm in what is held, for itself and for each of its effects. What is finalized is dropped, once. Of the
+/// views that are outstanding nothing is kept: a gap costs no memory, however long it is.
 #[derive(Drop)]
 pub struct State {
     scanner: Scanner,
-    /// The outstanding views.
-    gaps: Gaps,
 }
 
 impl State {
-    ghost use Rattle.std.specs.Prelude.{◌≡◌, ◌↔◌, ◌∷◌, [], ℕ, Contains, OnOk, OnErr, IfOk};
+    ghost use Rattle.std.specs.Prelude.{◌≡◌, ◌↔◌, ◌-◌, ◌∷◌, [], ℕ, Contains, OnOk, OnErr, IfOk};
     ghost use Rattle.std.specs.Ordering.{nat_cmp};
     ghost use Rattle.std.specs.List.Sorted.{IsStrictlySortedBy};
     ghost use Rattle.std.specs.Option.{option_map};
     ghost use Rattle.messages_certificates.specs.Certificate.{any_certificate_spelling, certificate_round, as_notarization};
-    ghost use Rattle.simplex_resolver.specs.RepairHistory.{Judged, Replayed, item_of};
+    ghost use Rattle.types_core.specs.Positions.{term_index};
+    ghost use Rattle.simplex_resolver.specs.RepairHistory.{Judged, Replayed, current, floor, item_of};
     ghost use Rattle.simplex_resolver.specs.Outstanding.{Gives, IsOutstanding};
     ghost use Rattle.simplex_resolver.specs.Answers.{is_settled, is_key_settled, is_uncertifiable, produced};
     ghost use Rattle.simplex_resolver.specs.Keeps.{Keeps, AtEach, length_of};
@@ -40,7 +39,6 @@ impl State {
     {
         State {
             scanner: Scanner::new(alloc, term_length),
-            gaps: Gaps::new(alloc),
         }
     }
 
@@ -78,9 +76,7 @@ impl State {
         if !certificate.view().has_room(self.scanner.held.length) {
             return Ok(Vec::new(alloc));
         }
-        let effects = self.scanner.updated(alloc, certificate)?;
-        self.gaps.apply_all(&effects)?;
-        Ok(effects)
+        self.scanner.updated(alloc, certificate)
     }
 
     /// Takes a verdict on a notarization, which may come before the notarization itself, and tells what follows, in
@@ -113,9 +109,7 @@ impl State {
         if !notarization.view().has_room(self.scanner.held.length) {
             return Ok(Vec::new(alloc));
         }
-        let effects = self.scanner.certified(alloc, notarization, success)?;
-        self.gaps.apply_all(&effects)?;
-        Ok(effects)
+        self.scanner.certified(alloc, notarization, success)
     }
 
     /// Takes the end of the replay, and tells what is to be fetched. It looks at each false verdict above the floor. After
@@ -129,17 +123,24 @@ impl State {
         ensures gives { IfOk result (λ given. AtEach self.old (λ views h. Gives views h Replayed given.items)) }
         ensures length { length_of self.new ≡ length_of self.old }
     {
-        let effects = self.scanner.replayed(alloc)?;
-        self.gaps.apply_all(&effects)?;
-        Ok(effects)
+        self.scanner.replayed(alloc)
     }
 
-    /// The views that the member has to repair, ascending: none before the end of the replay. It takes no memory.
+    /// The views that the member has to repair, ascending: none before the end of the replay. It takes no memory, and finds them one
+    /// at a time.
     pub fn outstanding(&self) -> Outstanding<'_>
         ensures exact { AtEach self.now (λ views h. (v : ℕ) → Contains result v ↔ IsOutstanding views h v) }
         ensures ascending { IsStrictlySortedBy nat_cmp result }
     {
-        self.gaps.iter()
+        Outstanding::above(&self.scanner, self.scanner.floor)
+    }
+
+    /// How many terms begin behind that of the floor, up to the highest certificate's view: one view more than that at most is
+    /// outstanding since a later one has a certificate.
+    pub fn most_outstanding(&self) -> u64
+        ensures { AtEach self.now (λ views h. result ≡ term_index views (current h) - term_index views (floor h)) }
+    {
+        self.scanner.terms_behind_floor()
     }
 
     /// Whether nothing is left to be asked of this kind at the view: it is there, or never will be.

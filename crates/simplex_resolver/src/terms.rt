@@ -1,7 +1,7 @@
-//! Where scans begin, and how many terms they pass.
+//! Where scans begin.
 
-ghost use Rattle.std.specs.Prelude.{◌≡◌, ◌≤◌, ◌<◌, ◌+◌, ◌-◌, ◌^◌};
-ghost use Rattle.types_core.specs.Positions.{next_term_start, term_index, HasRoom};
+ghost use Rattle.std.specs.Prelude.{◌≡◌, ◌<◌, ◌+◌, ◌^◌};
+ghost use Rattle.types_core.specs.Positions.{next_term_start};
 ghost use Rattle.simplex_resolver.specs.Outstanding.{scan_start, term_start_from};
 
 use types_core::{TermLength, View};
@@ -29,14 +29,4 @@ pub(crate) fn scan_start(went: View, floor: View, raised: bool, length: TermLeng
         return first;
     }
     term_start_from(went, length)
-}
-
-/// In how many terms the views from `start` to `end` lie.
-pub(crate) fn terms_between(start: View, end: View, length: TermLength) -> usize
-    requires some { 0 < length }
-    requires order { term_index length start ≤ term_index length end }
-    requires room { HasRoom length end }
-    ensures { result ≡ term_index length end - term_index length start + 1 }
-{
-    (end.term_index(length) - start.term_index(length)) as usize + 1
 }

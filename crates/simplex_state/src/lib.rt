@@ -10,6 +10,6 @@ pub use simplex_resolver as resolver;
 pub use state::State;
 pub use verify::Verify;
 pub use voter_rules::config::{
-    Config, ConfigFault, ForwardPolicy, SkipBudget, SkipPolicy, check_config,
+    Again, Config, ConfigFault, ForwardPolicy, RepairPolicy, SkipBudget, SkipPolicy, check_config,
 };
 pub use voter_rules::{CertificateFetch, Floor, FloorFault, ProposalRequest, check_floor};

@@ -5,8 +5,9 @@
 //!   a member (ME, `-` for one without a key) of a committee of N with an empty disk, not open. SCHEME is `plain` or
 //!   `salted`; terms have L views, K of them optimistic; members lead in turn, a term each; times are milliseconds, `-`
 //!   for a STALL or SKIP that never comes; BUDGET is how many terms may be skipped, `-` for as many as there are members;
-//!   FORWARD is `disabled`, `silent-voters` or `silent-leader`; HANDOFFS is 1: no node goes without. `reset pair ..`: the same with
-//!   two empty disks
+//!   FORWARD is `disabled`, `silent-voters` or `silent-leader`; HANDOFFS is 1: no node goes without. Behind it may stand `AGAIN
+//!   WINDOW`: `once`, as where nothing does, or `with-nullify`; and for how many views to leave behind others are asked at once, `-`
+//!   for all. `reset pair ..`: the same with two empty disks
 //! - `floor FLOOR`: what the openings start from that come, `genesis PAYLOAD`, as without this call that of zeros, or
 //!   `finalization CERTIFICATE`, or `spelled BYTES`
 //! - `open NOW`: closes the node that is open, opens the disk, and tells the first actions as a reply, or `fault NUMBER`,

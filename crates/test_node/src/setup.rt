@@ -5,7 +5,7 @@ use std::rc::Rc;
 use test_words::{Committee, Trouble, Words};
 use types_core::{Epoch, Participant, TermLength, ViewDelta};
 use types_terms::RoundRobin;
-use voter_rules::config::{Config, ForwardPolicy, SkipBudget, SkipPolicy};
+use voter_rules::config::{Again, Config, ForwardPolicy, RepairPolicy, SkipBudget, SkipPolicy};
 
 /// A member of a committee of so many, and how it is set up.
 #[derive(Clone, Copy)]
@@ -17,6 +17,7 @@ pub struct Setup {
     times: Times,
     skip: SkipPolicy,
     forward: ForwardPolicy,
+    repair: RepairPolicy,
     tracks: bool,
 }
 
@@ -93,15 +94,29 @@ fn forward(words: &mut Words<'_>) -> Result<ForwardPolicy, Trouble> {
     }
 }
 
-/// `HANDOFFS`, to the line's end.
+/// `HANDOFFS`.
 fn hands_off(words: &mut Words<'_>) -> Result<(), Trouble> {
     let hands_off = words.truth()?;
-    words.end()?;
     if hands_off {
         Ok(())
     } else {
         Err(Trouble::Condition)
     }
+}
+
+/// `AGAIN WINDOW`, to the line's end. Where nothing is left, asks go once, and all at once.
+fn repair(words: &mut Words<'_>) -> Result<RepairPolicy, Trouble> {
+    if !words.more() {
+        return Ok(RepairPolicy::once());
+    }
+    let again = match words.word() {
+        "once" => Again::Once,
+        "with-nullify" => Again::WithNullify,
+        _ => return Err(Trouble::Unreadable),
+    };
+    let window = words.optional()?;
+    words.end()?;
+    Ok(RepairPolicy { again, window })
 }
 
 impl Setup {
@@ -116,6 +131,7 @@ impl Setup {
         let forward = forward(words)?;
         let tracks = words.truth()?;
         hands_off(words)?;
+        let repair = repair(words)?;
         Ok(Setup {
             members,
             me,
@@ -124,6 +140,7 @@ impl Setup {
             times,
             skip,
             forward,
+            repair,
             tracks,
         })
     }
@@ -156,6 +173,7 @@ impl Setup {
             view_retention: ViewDelta::new(self.times.retention),
             skip: self.skip,
             forward: self.forward,
+            repair: self.repair,
             track_historical_votes: self.tracks,
         }
     }

@@ -9,3 +9,4 @@ pub mod Floor
 pub mod Knowing
 pub mod Laws
 pub mod Requests
+pub mod Repairing

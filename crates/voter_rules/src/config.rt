@@ -4,6 +4,7 @@ ghost use Rattle.std.specs.Prelude.{◌≡◌, ◌≢◌, ◌↔◌, IfErr, IsTr
 ghost use Rattle.voter_rules.specs.declared.config.ConfigFault.{ConfigFault};
 ghost use Rattle.voter_rules.specs.declared.config.ForwardPolicy.TheVariants.{Disabled};
 ghost use Rattle.voter_rules.specs.Configuring.{Applies, IsFirst, SkipsWithin, budget_of, fault_number, skip_budget};
+ghost use Rattle.voter_rules.specs.Repairing.{asks_once, usual_repair};
 
 use types_core::{Epoch, ViewDelta};
 
@@ -88,6 +89,47 @@ impl ForwardPolicy {
     }
 }
 
+/// Whether an ask that nothing settled goes again.
+#[derive(Clone, Copy, Debug, PartialEq, Eq)]
+pub enum Again {
+    /// It goes once in an opening.
+    Once,
+    /// It goes again with each repeated nullify.
+    WithNullify,
+}
+
+/// How a member asks for what it lacks. No vote, deadline, block or record depends on it.
+#[derive(Clone, Copy, Debug, PartialEq, Eq)]
+pub struct RepairPolicy {
+    /// Whether an ask that nothing settled goes again.
+    pub again: Again,
+    /// How many views to leave behind are asked for at once, the lowest first. Without it all are.
+    pub window: Option<u64>,
+}
+
+impl RepairPolicy {
+    /// All asks go at once, and each of them once.
+    pub const fn once() -> Self
+        ensures { result ≡ asks_once }
+    {
+        RepairPolicy {
+            again: Again::Once,
+            window: None,
+        }
+    }
+
+    /// Asks go again with each repeated nullify, and for 1,024 views to leave behind at once: a committee that loses packets
+    /// gets on by it.
+    pub const fn usual() -> Self
+        ensures { result ≡ usual_repair }
+    {
+        RepairPolicy {
+            again: Again::WithNullify,
+            window: Some(1_024),
+        }
+    }
+}
+
 /// How a member is set up. What it starts from may be a payload of view 0, or a [`Floor`](crate::Floor). Durations are whole
 /// milliseconds.
 #[derive(Drop)]
@@ -108,6 +150,8 @@ pub struct Config<F> {
     pub skip: SkipPolicy,
     /// To whom payloads are forwarded.
     pub forward: ForwardPolicy,
+    /// How the member asks for what it lacks.
+    pub repair: RepairPolicy,
     /// Whether each vote is kept until its view is dropped, also behind a certificate and of views that were skipped.
     pub track_historical_votes: bool,
 }

@@ -4,7 +4,7 @@ ghost use Rattle.std.specs.Prelude.{◌≡◌, ◌<◌};
 
 use types_core::{Epoch, TermLength, ViewDelta};
 use types_terms::elector::RoundRobin;
-use voter_rules::config::{Config, ForwardPolicy, SkipBudget, SkipPolicy};
+use voter_rules::config::{Again, Config, ForwardPolicy, RepairPolicy, SkipBudget, SkipPolicy};
 use world_network::Times;
 
 /// Who leads: all in turn, a term each.
@@ -42,7 +42,21 @@ pub fn config_of<F>(times: &Times, floor: F) -> Config<F>
         view_retention: ViewDelta::new(times.retention),
         skip: skip_of(times),
         forward: ForwardPolicy::Disabled,
+        repair: repair_of(times),
         track_historical_votes: false,
+    }
+}
+
+/// How each asks for what it lacks.
+fn repair_of(times: &Times) -> RepairPolicy {
+    let again = if times.asks_again {
+        Again::WithNullify
+    } else {
+        Again::Once
+    };
+    RepairPolicy {
+        again,
+        window: times.window,
     }
 }
 

@@ -154,6 +154,10 @@ pub struct Times {
     pub skip: Option<u64>,
     /// How many views below the last finalized one are kept.
     pub retention: u64,
+    /// Whether an ask that nothing settled goes again with each repeated nullify.
+    pub asks_again: bool,
+    /// For how many views to leave behind others are asked at once, if not for all.
+    pub window: Option<u64>,
 }
 
 /// What is to happen.
@@ -321,6 +325,10 @@ impl Scenario {
             }
             "skip" => self.times.skip = Some(above_zero(words)?),
             "keep" => self.times.retention = above_zero(words)?,
+            "repair" => {
+                self.times.asks_again = asks_again(words)?;
+                self.times.window = window_of(words)?;
+            }
             _ => return self.set_lives(name, words),
         }
         Ok(())
@@ -472,7 +480,26 @@ const TIMES: Times = Times {
     retry: 1000,
     skip: None,
     retention: 10,
+    asks_again: true,
+    window: Some(1_024),
 };
+
+/// The word of whether asks go again.
+fn asks_again(words: &mut Words<'_>) -> Result<bool, Refusal> {
+    match words.word() {
+        "once" => Ok(false),
+        "with-nullify" => Ok(true),
+        _ => Err(Refusal::UnknownWord),
+    }
+}
+
+/// For how many views others are asked at once: with 0 for all.
+fn window_of(words: &mut Words<'_>) -> Result<Option<u64>, Refusal> {
+    match number_of(words)? {
+        0 => Ok(None),
+        views => Ok(Some(views)),
+    }
+}
 
 /// A time of a member, where it ends behind its beginning, and that isn't before the end of the one before.
 fn down_of(member: u32, from: u64, until: u64, before: u64) -> Result<Down, Refusal>

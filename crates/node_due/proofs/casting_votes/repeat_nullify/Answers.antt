@@ -27,9 +27,9 @@ returns-in-Ok-send_again-clause-tried g c = λ s h k at given_up due retry_known
     let may = repeat_allowed g.S.Scheme f s h v best c.args.view k.begun k.allowed (c.known_nullifies_are_recorded.ensures f s) (c.what_is_kept_stands_for_all.ensures.lawful f s h k.allowed) (c.what_is_kept_tells_all.ensures f s h k.allowed) (c.what_is_kept_stands_for_all.ensures.views f s h k.allowed (begun_some h k.begun))
     (λ n. c.the_nullify_of_the_current_view_is_the_last.ensures s.voter.scheme (owner_of s) (kept_of s.voter.length h) n v)
     last at (due (subst (λ (u : ℕ). MayGiveUp s.voter (voter_of s h) u) at is.0)) given_up (c.in-Ok.ensures s.voter (voter_of s h) k.voter) in
-    let tables = c.quiet_points_leave_the_tables.ensures (finalized_of s h) c.args.core.now.tables h (Repeats v best) refl k.tables in
-    did_one g.S.Scheme g.L.Elector g.K.Disk f s is_none (NoNullifyToCast g.S.Scheme f s) c.args.core.now (record c.args.core.now { voter = c.construct_nullify.new.self }) h (Repeats v best) c.args.out.now.items c.send_again.new.out.items (Ok came.Did) refl
-    refl (record { keeps = behind_repeat g.S.Scheme g.L.Elector g.K.Disk f s c.args.core.now c.construct_nullify.new.self h v best c.args.view c.silent_points_leave_votes.ensures.quiet k may.0 may.1 made tables; acts = c.in-Ok-send_again.ensures.done (g.S.Scheme.size s.voter.scheme) })
+    let tables = c.repeat.ensures (finalized_of s h) h k.tables v best in
+    did_one g.S.Scheme g.L.Elector g.K.Disk f s is_none (NoNullifyToCast g.S.Scheme f s) c.args.core.now (record c.args.core.now { voter = c.construct_nullify.new.self; tables = c.repeat.new.self }) h (Repeats v best) c.args.out.now.items c.send_again.new.out.items (Ok came.Did) refl
+    refl (record { keeps = behind_repeat g.S.Scheme g.L.Elector g.K.Disk f s c.args.core.now c.construct_nullify.new.self c.repeat.new.self h v best c.args.view c.silent_points_leave_votes.ensures.quiet k may.0 may.1 made tables; acts = c.in-Ok-send_again.ensures.done (g.S.Scheme.size s.voter.scheme) })
     (λ it. left_at_rest g.S.Scheme f s g.K.Disk h (Repeats v best) _ _ (c.a_ledger_at_rest_leaves_its_record.ensures (owner_of s) c.args.core.now.ledger (kept_of s.voter.length h) k.ledger it))
 
 pub returns-in_default-clause-tried : goal.returns-in_default-clause-tried

@@ -13,5 +13,7 @@ returns-clause-keeps g c = λ low h k. record {
   checks = k.checks;
   heard = k.heard;
   asks = k.asks;
+  asks_now = k.asks_now;
+  repeated = k.repeated;
   verdicts = k.verdicts;
 }

@@ -12,5 +12,7 @@ returns-clause-keeps g c = λ low h k context p at. record {
   checks = λ n. under_number (λ (o : Option ℕ). o) c.args.self.now.number n c.args.view context.round.view _ _ _ (ap (λ (v : ℕ). Some v) (sym at)) (c.in_ok-insert.ensures.updates.0 n) (k.checks n);
   heard = k.heard;
   asks = k.asks;
+  asks_now = k.asks_now;
+  repeated = k.repeated;
   verdicts = k.verdicts;
 }

@@ -11,5 +11,7 @@ returns-clause-keeps g c = on_ok-map c.put_view.result (λ more. λ low h k p is
   checks = k.checks;
   heard = k.heard;
   asks = k.asks;
+  asks_now = k.asks_now;
+  repeated = k.repeated;
   verdicts = λ u. one_more (λ (v : ℕ). low < v) c.args.view p.round.view u _ _ _ is over (more u) (k.verdicts u);
 }) c.put_view.ensures.one_more

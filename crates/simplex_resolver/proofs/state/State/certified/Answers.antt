@@ -1,12 +1,13 @@
-use Rattle.simplex_resolver.specs.Keeps.{HasGap}
-use Rattle.simplex_resolver.proofs.Leaving.{gaps-follow}
+use Rattle.simplex_resolver.proofs.Choices.{if_ok-map, on_ok-map}
+use Rattle.simplex_resolver.proofs.Gaps.{fits_behind}
+use Rattle.simplex_resolver.proofs.TermStarts.{room-next}
 use Rattle.simplex_resolver.proofs.state.State.certified.Goals as goal
 
 pub returns-clause-keeps : goal.returns-clause-keeps
-returns-clause-keeps g c = λ room views h k. record {
-  stands = c.in_ok-effects.ensures.keeps views h k.stands;
-  gaps_are = gaps-follow views h _ _ _ (HasGap c.args.self.now.gaps) (HasGap c.apply_all.new.self) k.stands.holds.some c.deref.ensures.value (c.in_ok-effects.ensures.gives views h k.stands) k.gaps_are c.in_ok-apply_all.ensures;
-}
+returns-clause-keeps g c = λ room. on_ok-map c.certified.result (λ keeps views h k. record {
+  stands = keeps views h k.stands;
+  fits = fits_behind h c.args.notarization.proposal.round.view _ c.args.success (room-next c.args.self.now.scanner.held.length c.args.self.now.scanner.some c.args.notarization.proposal.round.view room) k.fits;
+}) c.certified.ensures.keeps
 
 pub returns-clause-gives : goal.returns-clause-gives
-returns-clause-gives g c = λ room views h k. c.in_ok-effects.ensures.gives views h k.stands
+returns-clause-gives g c = λ room. if_ok-map c.certified.result (λ given gives views h k. gives views h k.stands) c.certified.ensures.gives

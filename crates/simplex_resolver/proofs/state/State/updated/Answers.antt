@@ -1,12 +1,12 @@
-use Rattle.simplex_resolver.specs.Keeps.{HasGap}
-use Rattle.simplex_resolver.proofs.Leaving.{gaps-follow}
+use Rattle.simplex_resolver.proofs.Choices.{if_ok-map, on_ok-map}
+use Rattle.simplex_resolver.proofs.Items.{failed_before}
 use Rattle.simplex_resolver.proofs.state.State.updated.Goals as goal
 
 pub returns-clause-keeps : goal.returns-clause-keeps
-returns-clause-keeps g c = λ room views h k. record {
-  stands = c.in_ok-effects.ensures.keeps views h k.stands;
-  gaps_are = gaps-follow views h _ _ _ (HasGap c.args.self.now.gaps) (HasGap c.apply_all.new.self) k.stands.holds.some c.deref.ensures.value (c.in_ok-effects.ensures.gives views h k.stands) k.gaps_are c.in_ok-apply_all.ensures;
-}
+returns-clause-keeps g c = λ room. on_ok-map c.updated.result (λ keeps views h k. record {
+  stands = keeps views h k.stands;
+  fits = λ v failed. k.fits v (failed_before _ c.args.certificate.now h v failed);
+}) c.updated.ensures.keeps
 
 pub returns-clause-gives : goal.returns-clause-gives
-returns-clause-gives g c = λ room views h k. c.in_ok-effects.ensures.gives views h k.stands
+returns-clause-gives g c = λ room. if_ok-map c.updated.result (λ given gives views h k. gives views h k.stands) c.updated.ensures.gives
