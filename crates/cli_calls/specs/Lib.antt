@@ -1,2 +1,5 @@
 pub mod Kept
+pub mod KeptLaws
+pub mod LooseValues
+pub mod NumberLaws
 pub mod Told

@@ -4,8 +4,6 @@
 mod disk;
 mod log;
 mod requests;
-mod room;
 
 pub use disk::HostedDisk;
-pub use requests::{File, Requests, take_all};
-pub use room::put;
+pub use requests::{File, Requests};

@@ -1,9 +1,10 @@
 //! What a host is asked to do with the bytes that it keeps.
 
-ghost use Rattle.std.specs.Prelude.{◌≡◌, ◌++◌, ◌≤◌, ◌<◌, [], ◌⊎◌, IfOk, length, take, Ok, Err, OnErr, OnOk};
+ghost use Rattle.std.specs.Prelude.{◌≡◌, ◌++◌, ◌<◌, ℕ, List, IfOk, false, length, OnErr, OnOk, true};
+ghost use Rattle.cli_calls.specs.Told.{IsPut};
 ghost use Rattle.cli_disk.specs.Requests.{EndsWith, cutting, fixing, number, tag_of, writing};
 
-use crate::room::put;
+use cli_calls::{Found, taken};
 use std::alloc::{AllocError, Global};
 use std::cell::RefCell;
 use std::rc::Rc;
@@ -52,14 +53,18 @@ impl Requests {
         })
     }
 
-    /// Puts all that was asked at the front of the room and forgets it, where it fits, and answers its size.
-    pub fn take(&self, room: &mut [u8]) -> Result<usize, usize>
-        ensures unwritten { OnErr result (room.new ≡ room.old) }
-        ensures fits { IfOk result (λ size. size ≤ length room.old) }
+    /// Takes all that was asked, where it fits at the front of the room, and tells its size. Whether it fits.
+    pub fn take(&self, room: &mut [u8], found: &mut Found) -> bool
+        ensures done { result ≡ true → (asked : List ℕ) × IsPut asked room.old room.new × (found.new.length ≡ length asked) }
+        ensures no_room { result ≡ false → (room.new ≡ room.old) × (length room.old < found.new.length) }
+        ensures unnamed { found.new.named ≡ 0 }
     {
         match self.list.try_borrow_mut() {
-            Ok(mut list) => take_all(&mut list, room),
-            Err(_) => Err(usize::MAX),
+            Ok(mut list) => taken(&mut list, room, found),
+            Err(_) => {
+                found.tell(usize::MAX, None);
+                false
+            }
         }
     }
 
@@ -94,24 +99,6 @@ impl Requests {
             Err(_) => Err(AllocError),
         }
     }
-}
-
-/// Puts all at the front of the room and empties the list, where it fits, and answers its size.
-pub fn take_all(list: &mut Vec<u8>, room: &mut [u8]) -> Result<usize, usize>
-    ensures taken { OnOk result (list.new.items ≡ []) }
-    ensures done { OnOk result ((length list.old.items ≤ length room.old) × (take (length list.old.items) room.new ≡ list.old.items)) }
-    ensures size { (size : _) → (result ≡ Ok size ⊎ result ≡ Err size) → size ≡ length list.old.items }
-    ensures fits { IfOk result (λ size. size ≤ length room.old) }
-    ensures no_room { OnErr result (length room.old < length list.old.items) }
-    ensures unwritten { OnErr result (room.new ≡ room.old) }
-    ensures kept { OnErr result (list.new.items ≡ list.old.items) }
-{
-    let size = list.len();
-    if !put(list.as_slice(), room) {
-        return Err(size);
-    }
-    list.clear();
-    Ok(size)
 }
 
 /// Ends the list with this request, or leaves it as it was.

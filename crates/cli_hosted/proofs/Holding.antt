@@ -1,6 +1,6 @@
 -- What a call tells of what a handle holds.
 use Rattle.std.proofs.Common.{◌≡◌, Option, Some, subst, sym}
-use Rattle.std.specs.Prelude.{Result, Ok, Err, IfErr, IfOk, IfSome, OnErr, OnOk}
+use Rattle.std.specs.Prelude.{Result, Ok, Err, IfErr, IfOk, IfSome}
 
 -- what was opened is held
 pub held_of : {A E S Done : Type 0} (opening : Result A E) (value : A → S) (held : Option S) (P : S → Type 0)
@@ -11,12 +11,3 @@ held_of (Err why) value held P is none done has = absurd (none done)
 -- what is said of what was held
 pub of_held : {S : Type 0} (held : Option S) (state : S) (P : S → Type 0) → held ≡ Some state → P state → IfSome held P
 of_held {S} held state P is has = subst (λ (o : Option S). IfSome o P) (sym is) has
-
--- what holds of an answer that is known
-pub on_ok : {A E : Type 0} (answer : Result A E) (x : A) (P : Type 0) → answer ≡ Ok x → OnOk answer P → P
-on_ok (Ok y) x P is holds = holds
-on_ok (Err why) x P is holds = absurd cc
-
-pub on_err : {A E : Type 0} (answer : Result A E) (why : E) (P : Type 0) → answer ≡ Err why → OnErr answer P → P
-on_err (Ok y) why P is holds = absurd cc
-on_err (Err reason) why P is holds = holds

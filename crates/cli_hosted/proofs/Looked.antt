@@ -7,7 +7,7 @@ use Rattle.cli_opening.specs.declared.looking.Barred.{Barred}
 use Rattle.cli_opening.specs.declared.looking.Barred.TheVariants as barred
 use Rattle.cli_hosted.specs.declared.status.Status.TheVariants as status
 use Rattle.cli_hosted.specs.Serving.{IsTornIn, barred_place, barred_status}
-use Rattle.cli_hosted.specs.Statuses.{Names}
+use Rattle.cli_calls.specs.Told.{Names}
 
 pub never_done : (why : Barred) → barred_status why ≢ status.Done
 never_done barred.Memory is = absurd cc

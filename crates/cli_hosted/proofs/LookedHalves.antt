@@ -11,7 +11,7 @@ use Rattle.cli_opening.specs.declared.looking.Barred.TheVariants as barred
 use Rattle.cli_hosted.specs.declared.status.Status.TheVariants as status
 use Rattle.cli_hosted.specs.Pairs.{AreBarred, AreTornIn, BeginsAsNone}
 use Rattle.cli_hosted.specs.Serving.{barred_place, barred_status}
-use Rattle.cli_hosted.specs.Statuses.{Names}
+use Rattle.cli_calls.specs.Told.{Names}
 use Rattle.cli_hosted.proofs.Looked.{unasked}
 
 pub half_torn_by : (base : List ℕ) (members : ℕ) (owner : Owner) (named place : ℕ) (cuts : Bool) (one other : List ℕ) (why : Barred) → barred_status why ≡ status.Torn

@@ -23,8 +23,8 @@ use Rattle.std.proofs.alloc.Global.TheLaws as heap_laws
 use Rattle.std.specs.contracts.impls.GlobalAllocator.TheImpl as heap_impl
 use Rattle.cli_hosted.specs.contracts.session.Session as session
 use Rattle.cli_hosted.specs.contracts.place.Place as place
-use Rattle.cli_hosted.specs.Place.{owned}
-use Rattle.cli_hosted.proofs.Values.{both}
+use Rattle.cli_calls.specs.Kept.{owned}
+use Rattle.cli_calls.specs.LooseValues.{both}
 
 abbrev pub Z : RattleType
 Z = heap.the_row

@@ -1,7 +1,6 @@
 pub mod Held
 pub mod Hosting
 pub mod Pairs
-pub mod Place
 pub mod Serving
 pub mod Sessions
 pub mod Statuses

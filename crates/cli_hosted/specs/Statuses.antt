@@ -1,5 +1,5 @@
 -- What calls answer a host.
-use Rattle.std.specs.Prelude.{◌≡◌, ℕ, Option, None, Some}
+use Rattle.std.specs.Prelude.{ℕ}
 use Rattle.cli_hosted.specs.declared.status.Status.{Status}
 use Rattle.cli_hosted.specs.declared.status.Status.TheVariants as status
 
@@ -23,8 +23,3 @@ status_number status.Version = 14
 status_number status.OtherEpoch = 15
 status_number status.NotCertifying = 16
 status_number status.NotFinal = 17
-
--- two numbers name a place, or none
-abbrev pub Names : ℕ → ℕ → Option ℕ → Type 0
-Names named place None = named ≡ 0
-Names named place (Some p) = (named ≡ 1) × (place ≡ p)

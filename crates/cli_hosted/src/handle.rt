@@ -1,11 +1,11 @@
 //! A node as C holds it.
 
 ghost use Rattle.std.specs.Prelude.{◌≡◌, ◌≢◌, IfNone, IfSome, IsSome, None, Some};
-ghost use Rattle.cli_hosted.specs.Place.{count_of};
+ghost use Rattle.cli_calls.specs.Kept.{count_of};
 
-use crate::loose::Loose;
 use crate::place::Place;
 use crate::session::Session;
+use cli_calls::Loose;
 use std::alloc::Global;
 use std::mem;
 
@@ -43,7 +43,7 @@ impl Handle {
     }
 
     /// The node, if one is open. Behind the call none is.
-    #[tactic(auto, using(crate::proofs::Kept::none_by))]
+    #[tactic(auto, using(cli_calls::specs::KeptLaws::none_by))]
     pub(crate) fn taken(&mut self, alloc: Global) -> Option<Box<Session>>
         ensures live { self.old.live ≡ 1 → IsSome result }
         ensures dead { self.old.live ≢ 1 → result ≡ None }

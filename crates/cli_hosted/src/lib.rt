@@ -1,9 +1,7 @@
 //! A member's node whose record a host keeps, as the host holds it between two calls.
 #![tactic(auto)]
 
-mod found;
 mod handle;
-mod loose;
 mod place;
 mod promises;
 mod serving;
@@ -11,8 +9,7 @@ mod session;
 mod status;
 mod views;
 
-pub use cli_disk::put;
-pub use found::Found;
+pub use cli_calls::Found;
 pub use handle::Handle;
 pub use place::Place;
 pub use promises::{Promised, Promises};

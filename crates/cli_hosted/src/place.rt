@@ -5,8 +5,8 @@ ghost use Rattle.std.specs.Coded.{coded_option};
 ghost use Rattle.cli_hosted.specs.declared.session.Session.{Session as Kept};
 ghost use Rattle.cli_hosted.specs.contracts.session.Session.{the_row};
 
-use crate::loose::Loose;
 use crate::session::Session;
+use cli_calls::Loose;
 use std::alloc::{Allocator, Global};
 use std::marker::Model;
 use std::ptr;
@@ -21,7 +21,7 @@ pub struct Place {
 }
 
 impl Model for Place {
-    ghost use Rattle.cli_hosted.specs.Place.{owned};
+    ghost use Rattle.cli_calls.specs.Kept.{owned};
     ghost use Rattle.cli_hosted.specs.contracts.session.Session.{the_row};
 
     ghost also_owns = { λ p. owned (⟦<Global as Allocator>⟧.dealloc_token p.alloc) the_row p.held p.at };

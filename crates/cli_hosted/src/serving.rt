@@ -1,6 +1,6 @@
 //! Calls on a member's node.
 
-ghost use Rattle.std.specs.Prelude.{◌≡◌, ◌≢◌, ◌<◌, ◌≤◌, ◌⊎◌, ℕ, [], Ok, Err, IfErr, IfOk, IfSome, None, OnOk, Option, Result, Some, ⊤, false, length, take, true};
+ghost use Rattle.std.specs.Prelude.{◌≡◌, ◌≢◌, ◌<◌, ◌≤◌, ◌⊎◌, ℕ, [], Ok, Err, IfErr, IfOk, IfSome, List, None, OnOk, Option, Result, Some, ⊤, false, length, true};
 ghost use Rattle.std.specs.Option.{option_copied};
 ghost use Rattle.journal_look.specs.Look.{BeginsLikeOne};
 ghost use Rattle.cli_settings.specs.Checking.{IsGood};
@@ -12,16 +12,17 @@ ghost use Rattle.cli_hosted.specs.Held.{held_by};
 ghost use Rattle.cli_hosted.specs.Sessions.{node_of, replies_of};
 ghost use Rattle.cli_hosted.specs.declared.session.Session.{Session as Kept};
 ghost use Rattle.cli_hosted.specs.Pairs.{AreBarredAt, AreBarredBy, AreLookedAt, AreLookedAtBy, AreTornAt, AreTornBy, BeginsAsNone};
-ghost use Rattle.cli_hosted.specs.Statuses.{Names, status_number};
+ghost use Rattle.cli_calls.specs.Told.{AreTaken, IsPut, Names, WaitOn};
+ghost use Rattle.cli_hosted.specs.Statuses.{status_number};
 ghost use Rattle.cli_hosted.specs.Serving.{IsLookedAt, IsLookedAtBy, IsTornAt, IsTornBy, barred_place, barred_status, ending_status, rewrite_place, rewrite_status, run_place, run_status, unopened_place, unopened_status, unstepped_status};
 ghost use Rattle.cli_hosted.specs.declared.status.Status.TheVariants.{Argument, Device, Done, Failed, Foreign, Invalid, Memory, NoRecord, Refused, Room, Torn};
 
-use crate::found::Found;
 use crate::handle::Handle;
 use crate::promises::{Promised, Promises};
 use crate::session::Session;
 use crate::status::Status;
 use crate::views::Views;
+use cli_calls::Found;
 use cli_opening::{
     Barred, Found as Looked, look_at, look_at_by, look_at_half, look_at_half_by, owner_by,
 };
@@ -298,7 +299,7 @@ pub fn rewritten(alloc: Global, node: &mut Handle, found: &mut Found) -> Status
     shortened(ended, found)
 }
 
-/// Puts what the host is asked at the front of the room, where it fits.
+/// Takes what the host is asked, where it fits at the front of the room.
 pub fn requests_taken(
     alloc: Global,
     node: &mut Handle,
@@ -309,28 +310,29 @@ pub fn requests_taken(
     ensures dead { node.old.live ≢ 1 → (result ≡ Argument) × (node.new.live ≡ 0) }
     ensures live { node.old.live ≡ 1 → node.new.live ≡ 1 }
     ensures answers { (result ≡ Done) ⊎ ((result ≡ Argument) ⊎ (result ≡ Room)) }
-    ensures fits { result ≡ Done → found.new.length ≤ length room.old }
+    ensures done { result ≡ Done → (asked : List ℕ) × IsPut asked room.old room.new × (found.new.length ≡ length asked) }
+    ensures no_room { result ≡ Room → length room.old < found.new.length }
     ensures unwritten { result ≢ Done → room.new ≡ room.old }
     ensures unnamed { result ≢ Argument → found.new.named ≡ 0 }
 {
     let Some(session) = node.taken(alloc) else {
         return Status::Argument;
     };
-    let taken = session.requests().take(room);
+    let fits = session.requests().take(room, found);
     *node = Handle::of(session);
-    fitted(taken, found)
+    Status::fitted(fits)
 }
 
-/// Puts the replies at the front of the room, where they fit.
+/// Takes the replies, where they fit at the front of the room.
 pub fn replies_taken(alloc: Global, node: &mut Handle, room: &mut [u8], found: &mut Found) -> Status
     ensures taken { IfSome (held_by node.old) (λ old.
         result ≡ Done
-        → (left : Kept) × (held_by node.new ≡ Some left) × (length (replies_of old) ≤ length room.old)
-        × (take (length (replies_of old)) room.new ≡ replies_of old) × (node_of left ≡ node_of old) × (replies_of left ≡ [])) }
+        → (left : Kept) × (held_by node.new ≡ Some left) × (node_of left ≡ node_of old)
+        × AreTaken (replies_of old) (replies_of left) room.old room.new) }
     ensures no_room { IfSome (held_by node.old) (λ old.
         result ≢ Done
-        → (left : Kept) × (held_by node.new ≡ Some left) × (length room.old < length (replies_of old)) × (node_of left ≡ node_of old)
-        × (replies_of left ≡ replies_of old)) }
+        → (left : Kept) × (held_by node.new ≡ Some left) × (node_of left ≡ node_of old)
+        × WaitOn (replies_of old) (replies_of left) room.old room.new) }
     ensures length { IfSome (held_by node.old) (λ old. found.new.length ≡ length (replies_of old)) }
     ensures dead { node.old.live ≢ 1 → (result ≡ Argument) × (node.new.live ≡ 0) }
     ensures live { node.old.live ≡ 1 → node.new.live ≡ 1 }
@@ -341,9 +343,9 @@ pub fn replies_taken(alloc: Global, node: &mut Handle, room: &mut [u8], found: &
     let Some(mut session) = node.taken(alloc) else {
         return Status::Argument;
     };
-    let taken = session.take_replies(room);
+    let fits = session.take_replies(room, found);
     *node = Handle::of(session);
-    fitted(taken, found)
+    Status::fitted(fits)
 }
 
 /// Tells the view that the node is in, and the last that is final.
@@ -373,25 +375,6 @@ pub fn closed(alloc: Global, node: &mut Handle) -> Status
     match node.taken(alloc) {
         Some(_) => Status::Done,
         None => Status::Argument,
-    }
-}
-
-/// Whether an answer fitted, and its size.
-fn fitted(taken: Result<usize, usize>, found: &mut Found) -> Status
-    ensures done { result ≡ Done → taken ≡ Ok found.new.length }
-    ensures room { result ≢ Done → (result ≡ Room) × (taken ≡ Err found.new.length) }
-    ensures size { (taken ≡ Ok found.new.length) ⊎ (taken ≡ Err found.new.length) }
-    ensures unnamed { found.new.named ≡ 0 }
-{
-    match taken {
-        Ok(size) => {
-            found.tell(size, None);
-            Status::Done
-        }
-        Err(size) => {
-            found.tell(size, None);
-            Status::Room
-        }
     }
 }
 

@@ -2,6 +2,7 @@
 
 ghost use Rattle.std.specs.Prelude.{◌≡◌, ◌<◌, ◌≤◌, ◌++◌, ◌⊎◌, ℕ, [], Err, IfOk, IsErrOf, None, Ok, OnErr, OnOk, Some, length, take, true};
 ghost use Rattle.std.specs.Option.{option_copied};
+ghost use Rattle.cli_calls.specs.Told.{AreTaken, WaitOn};
 ghost use Rattle.cli_settings.specs.Building.{config_of};
 ghost use Rattle.cli_settings.specs.Checking.{IsGood};
 ghost use Rattle.cli_disk.specs.HostedDisk.{IsFresh};
@@ -25,7 +26,8 @@ ghost use Rattle.node_wire.specs.Streaming.{EndsIn, spelled};
 ghost use Rattle.types_terms.specs.Rotation.{Rotation};
 
 use crate::promises::{Promised, Promises};
-use cli_disk::{File, HostedDisk, Requests, take_all};
+use cli_calls::{Found, taken};
+use cli_disk::{File, HostedDisk, Requests};
 use cli_settings::Settings;
 use journal_books::Disks;
 use journal_single::Disk;
@@ -124,18 +126,15 @@ impl Session {
         &self.requests
     }
 
-    /// Takes the replies that wait, where they fit at the front of the room, and answers their size.
-    pub(crate) fn take_replies(&mut self, room: &mut [u8]) -> Result<usize, usize>
+    /// Takes the replies that wait, where they fit at the front of the room, and tells their size. Whether they fit.
+    pub(crate) fn take_replies(&mut self, room: &mut [u8], found: &mut Found) -> bool
         ensures node { self.new.node ≡ self.old.node }
-        ensures taken { OnOk result (self.new.replies.items ≡ []) }
-        ensures done { OnOk result ((length self.old.replies.items ≤ length room.old)
-            × (take (length self.old.replies.items) room.new ≡ self.old.replies.items)) }
-        ensures size { (size : ℕ) → (result ≡ Ok size ⊎ result ≡ Err size) → size ≡ length self.old.replies.items }
-        ensures no_room { OnErr result (length room.old < length self.old.replies.items) }
-        ensures unwritten { OnErr result (room.new ≡ room.old) }
-        ensures kept { OnErr result (self.new.replies.items ≡ self.old.replies.items) }
+        ensures taken { result ≡ true → AreTaken self.old.replies.items self.new.replies.items room.old room.new }
+        ensures no_room { result ≡ false → WaitOn self.old.replies.items self.new.replies.items room.old room.new }
+        ensures length { found.new.length ≡ length self.old.replies.items }
+        ensures unnamed { found.new.named ≡ 0 }
     {
-        take_all(&mut self.replies, room)
+        taken(&mut self.replies, room, found)
     }
 
     /// The view that the node is in, and the last that is final.

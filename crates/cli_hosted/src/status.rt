@@ -1,7 +1,8 @@
 //! What a call answers a host, as a number.
 
-ghost use Rattle.std.specs.Prelude.{◌≡◌};
+ghost use Rattle.std.specs.Prelude.{◌≡◌, ◌≢◌, false, true};
 ghost use Rattle.cli_hosted.specs.Statuses.{status_number};
+ghost use Rattle.cli_hosted.specs.declared.status.Status.TheVariants.{Done, Room};
 
 /// How a call ended.
 #[derive(Drop)]
@@ -45,6 +46,14 @@ pub enum Status {
 }
 
 impl Status {
+    /// How a call ended whose answer fits in the caller's room, or doesn't.
+    pub fn fitted(fits: bool) -> Status
+        ensures done { result ≡ Done → fits ≡ true }
+        ensures room { result ≢ Done → (result ≡ Room) × (fits ≡ false) }
+    {
+        if fits { Status::Done } else { Status::Room }
+    }
+
     /// Its number, as the header has it.
     #[tactic(auto, unfolding(crate::specs::Statuses::status_number))]
     pub fn number(self) -> u32

@@ -12,7 +12,8 @@ use Rattle.cli_settings.specs.declared.setting.Conduct.{Conduct}
 use Rattle.cli_settings.specs.declared.fault.SettingsFault.{SettingsFault}
 use Rattle.cli_settings.specs.Building.{seed_of}
 use Rattle.cli_settings.specs.Checking.{IsFirst}
-use Rattle.cli_hosted.specs.Statuses.{Names, status_number}
+use Rattle.cli_calls.specs.Told.{Names}
+use Rattle.cli_hosted.specs.Statuses.{status_number}
 use Rattle.cli_hosted.specs.declared.status.Status.{Status}
 use Rattle.cli_hosted.specs.declared.status.Status.TheVariants as status
 use Rattle.simplex_c.specs.Settings.{HasFault, HasForm, IsUnfit, SaysConduct, SaysNothing, SaysSeed, SaysSettings, SaysSkip, again_number, forward_number, truth_number, unfit_place, unfit_status}

@@ -1,16 +1,18 @@
 //! The attestations of a message, for hosts that have keys.
 
-ghost use Rattle.std.specs.Prelude.{◌≡◌, ◌≢◌, ◌<◌, ◌⊎◌, List, Err, IfNone, IfSome, Ok, length, take};
+ghost use Rattle.std.specs.Prelude.{◌≡◌, ◌≢◌, ◌<◌, ◌⊎◌, List, Err, IfNone, IfSome, Ok, length};
 ghost use Rattle.types_codec.specs.declared.codec.CodecError.{CodecError as Trouble};
 ghost use Rattle.cli_attestations.specs.declared.listing.Mark.{Mark as Marking};
 ghost use Rattle.cli_attestations.specs.Marks.{marks_in};
+ghost use Rattle.cli_calls.specs.Told.{IsPut};
 ghost use Rattle.cli_hosted.specs.Statuses.{status_number};
 ghost use Rattle.cli_hosted.specs.declared.status.Status.TheVariants.{Argument, Done, Memory, Room};
 ghost use Rattle.simplex_c.specs.Answers.{kind_at, refusal_number};
 
 use crate::decoding::{kind_of, refused};
 use cli_attestations::{Mark, attestations};
-use cli_hosted::{Found, Status, put};
+use cli_calls::{Found, put};
+use cli_hosted::Status;
 use cli_tool::Kind;
 use std::alloc::Global;
 
@@ -25,7 +27,7 @@ fn marked(
 ) -> Status
     ensures done { result ≡ Done
         → (marks : List Marking) × (marks_in kind members bytes.now ≡ Ok marks) × (found.new.length ≡ length marks)
-        × (take (length marks) room.new ≡ marks) }
+        × IsPut marks room.old room.new }
     ensures room { result ≡ Room
         → (marks : List Marking) × (marks_in kind members bytes.now ≡ Ok marks) × (found.new.length ≡ length marks)
         × (length room.old < length marks) }
@@ -38,11 +40,7 @@ fn marked(
     match attestations(alloc, kind, members, bytes) {
         Ok(marks) => {
             found.tell(marks.len(), None);
-            if put(marks.as_slice(), room) {
-                Status::Done
-            } else {
-                Status::Room
-            }
+            Status::fitted(put(marks.as_slice(), room))
         }
         Err(trouble) => {
             found.tell(0, None);
@@ -64,7 +62,7 @@ fn marked_at(
     ensures known { IfSome (kind_at kind) (λ _. result ≢ Argument) }
     ensures done { IfSome (kind_at kind) (λ it. result ≡ Done
         → (marks : List Marking) × (marks_in it members bytes.now ≡ Ok marks) × (found.new.length ≡ length marks)
-        × (take (length marks) room.new ≡ marks)) }
+        × IsPut marks room.old room.new) }
     ensures room { IfSome (kind_at kind) (λ it. result ≡ Room
         → (marks : List Marking) × (marks_in it members bytes.now ≡ Ok marks) × (found.new.length ≡ length marks)
         × (length room.old < length marks)) }
@@ -97,7 +95,7 @@ pub extern "C" fn voumlis_proved_attestations(
     ensures known { IfSome (kind_at kind) (λ _. result ≢ 2) }
     ensures done { IfSome (kind_at kind) (λ it. result ≡ 0
         → (marks : List Marking) × (marks_in it members bytes.now ≡ Ok marks) × (found.new.length ≡ length marks)
-        × (take (length marks) room.new ≡ marks)) }
+        × IsPut marks room.old room.new) }
     ensures room { IfSome (kind_at kind) (λ it. result ≡ 3
         → (marks : List Marking) × (marks_in it members bytes.now ≡ Ok marks) × (found.new.length ≡ length marks)
         × (length room.old < length marks)) }

@@ -1,7 +1,8 @@
 //! What certificates certify, for callers in C that check what is final.
 
-ghost use Rattle.std.specs.Prelude.{◌≡◌, ◌≢◌, ◌<◌, ◌⊎◌, ℕ, [], List, length, map, take, IfOk};
+ghost use Rattle.std.specs.Prelude.{◌≡◌, ◌≢◌, ◌<◌, ◌⊎◌, ℕ, [], List, length, map, IfOk};
 ghost use Rattle.types_core.specs.declared.proposal.Proposal.{Proposal as Proposed};
+ghost use Rattle.cli_calls.specs.Told.{IsPut};
 ghost use Rattle.cli_hosted.specs.Statuses.{status_number};
 ghost use Rattle.cli_hosted.specs.declared.status.Status.TheVariants.{Argument, Done, Memory, NotFinal, Room, Settings as Faulty, Version};
 ghost use Rattle.cli_light.specs.declared.certifying.Certified.{Certified as Saying};
@@ -14,7 +15,8 @@ ghost use Rattle.simplex_c.specs.Settings.{HasFault, HasForm, SaysGood, SaysNoth
 
 use crate::decoding::refused;
 use crate::settings::{SettingsNumbers, settings_of, tell_unfit};
-use cli_hosted::{Found, Status, put};
+use cli_calls::{Found, put};
+use cli_hosted::Status;
 use cli_light::{Broken, Certified, Uncertified, certifies, finalized_in};
 use cli_settings::Committee;
 use std::alloc::{AllocError, Global};
@@ -151,7 +153,7 @@ fn finalized_by(
     requires { HasMembers committee.now }
     ensures finalized { result ≡ Done
         → (ps : List (Proposed (List ℕ))) × IsChain committee.now 0 bytes.now ps [] × (found.new.length ≡ length ps)
-        × (take (length ps) room.new ≡ map (proposal_numbers 2) ps) }
+        × IsPut (map (proposal_numbers 2) ps) room.old room.new }
     ensures room { result ≡ Room
         → (ps : List (Proposed (List ℕ))) × IsChain committee.now 0 bytes.now ps [] × (found.new.length ≡ length ps)
         × (length room.old < length ps) }
@@ -178,7 +180,7 @@ fn told_final(
     found: &mut Found,
 ) -> Status
     ensures length { result ≢ Memory → found.new.length ≡ length proposals.now }
-    ensures done { result ≡ Done → take (length proposals.now) room.new ≡ map (proposal_numbers 2) proposals.now }
+    ensures done { result ≡ Done → IsPut (map (proposal_numbers 2) proposals.now) room.old room.new }
     ensures room { result ≡ Room → length room.old < length proposals.now }
     ensures answers { (result ≡ Done) ⊎ ((result ≡ Room) ⊎ (result ≡ Memory)) }
     ensures unwritten { result ≢ Done → room.new ≡ room.old }
@@ -188,11 +190,7 @@ fn told_final(
         return Status::Memory;
     };
     found.tell(told.len(), None);
-    if put(told.as_slice(), room) {
-        Status::Done
-    } else {
-        Status::Room
-    }
+    Status::fitted(put(told.as_slice(), room))
 }
 
 /// What a certificate certifies for the members of these settings.
@@ -238,7 +236,7 @@ fn finalized_with(
     ensures finalized { result ≡ Done
         → (s : Setting) × SaysGood numbers.now base.now seed.now s
         × ((ps : List (Proposed (List ℕ))) × IsChain s.committee 0 bytes.now ps [] × (found.new.length ≡ length ps)
-        × (take (length ps) room.new ≡ map (proposal_numbers 2) ps)) }
+        × IsPut (map (proposal_numbers 2) ps) room.old room.new) }
     ensures room { result ≡ Room
         → (s : Setting) × SaysGood numbers.now base.now seed.now s
         × ((ps : List (Proposed (List ℕ))) × IsChain s.committee 0 bytes.now ps [] × (found.new.length ≡ length ps)
@@ -309,7 +307,7 @@ pub extern "C" fn voumlis_proved_finalized_in(
     ensures finalized { result ≡ 0
         → (s : Setting) × SaysGood numbers.now base.now seed.now s
         × ((ps : List (Proposed (List ℕ))) × IsChain s.committee 0 bytes.now ps [] × (found.new.length ≡ length ps)
-        × (take (length ps) room.new ≡ map (proposal_numbers 2) ps)) }
+        × IsPut (map (proposal_numbers 2) ps) room.old room.new) }
     ensures room { result ≡ 3
         → (s : Setting) × SaysGood numbers.now base.now seed.now s
         × ((ps : List (Proposed (List ℕ))) × IsChain s.committee 0 bytes.now ps [] × (found.new.length ≡ length ps)

@@ -1,6 +1,6 @@
 //! A member's node for callers in C, which hold it between two calls.
 
-ghost use Rattle.std.specs.Prelude.{◌≡◌, ◌≢◌, ◌⊎◌, ◌<◌, ◌≤◌, ℕ, [], IfSome, None, Option, Result, Some, length, take, ⊤};
+ghost use Rattle.std.specs.Prelude.{◌≡◌, ◌≢◌, ◌⊎◌, ◌<◌, ◌≤◌, ℕ, [], IfSome, List, None, Option, Result, Some, length, ⊤};
 ghost use Rattle.journal_look.specs.Look.{BeginsLikeOne};
 ghost use Rattle.simplex_member.specs.declared.fault.IoFault.{IoFault};
 ghost use Rattle.simplex_member.specs.declared.fault.NodeFault.{NodeFault};
@@ -8,7 +8,8 @@ ghost use Rattle.cli_hosted.specs.Held.{held_by};
 ghost use Rattle.cli_hosted.specs.Pairs.{AreLookedAt, AreTornAt, BeginsAsNone};
 ghost use Rattle.cli_hosted.specs.Serving.{IsLookedAt, IsTornAt, asks, rewrite_place, rewrite_status, run_place, run_status};
 ghost use Rattle.cli_hosted.specs.Sessions.{node_of, replies_of};
-ghost use Rattle.cli_hosted.specs.Statuses.{Names, status_number};
+ghost use Rattle.cli_calls.specs.Told.{AreTaken, IsPut, Names, WaitOn};
+ghost use Rattle.cli_hosted.specs.Statuses.{status_number};
 ghost use Rattle.cli_hosted.specs.declared.session.Session.{Session as Kept};
 
 use cli_hosted::{
@@ -158,7 +159,8 @@ pub extern "C" fn voumlis_proved_node_requests(
     ensures held { held_by node.new ≡ held_by node.old }
     ensures dead { node.old.live ≢ 1 → (result ≡ 2) × (node.new.live ≡ 0) }
     ensures live { node.old.live ≡ 1 → node.new.live ≡ 1 }
-    ensures fits { result ≡ 0 → found.new.length ≤ length room.old }
+    ensures done { result ≡ 0 → (asked : List ℕ) × IsPut asked room.old room.new × (found.new.length ≡ length asked) }
+    ensures no_room { result ≡ 3 → length room.old < found.new.length }
     ensures unwritten { result ≢ 0 → room.new ≡ room.old }
     ensures unnamed { result ≢ 2 → found.new.named ≡ 0 }
     ensures statuses { result ≤ 3 }
@@ -178,12 +180,12 @@ pub extern "C" fn voumlis_proved_node_replies(
 ) -> u32
     ensures taken { IfSome (held_by node.old) (λ old.
         result ≡ 0
-        → (left : Kept) × (held_by node.new ≡ Some left) × (length (replies_of old) ≤ length room.old)
-        × (take (length (replies_of old)) room.new ≡ replies_of old) × (node_of left ≡ node_of old) × (replies_of left ≡ [])) }
+        → (left : Kept) × (held_by node.new ≡ Some left) × (node_of left ≡ node_of old)
+        × AreTaken (replies_of old) (replies_of left) room.old room.new) }
     ensures no_room { IfSome (held_by node.old) (λ old.
         result ≢ 0
-        → (left : Kept) × (held_by node.new ≡ Some left) × (length room.old < length (replies_of old)) × (node_of left ≡ node_of old)
-        × (replies_of left ≡ replies_of old)) }
+        → (left : Kept) × (held_by node.new ≡ Some left) × (node_of left ≡ node_of old)
+        × WaitOn (replies_of old) (replies_of left) room.old room.new) }
     ensures length { IfSome (held_by node.old) (λ old. found.new.length ≡ length (replies_of old)) }
     ensures dead { node.old.live ≢ 1 → (result ≡ 2) × (node.new.live ≡ 0) }
     ensures live { node.old.live ≡ 1 → node.new.live ≡ 1 }

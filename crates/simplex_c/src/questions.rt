@@ -1,16 +1,17 @@
 //! What a caller in C asks of bytes that it holds.
 
-ghost use Rattle.std.specs.Prelude.{◌≡◌, ◌≢◌, ◌<◌, ◌⊎◌, ◌≤◌, ℕ, List, Option, [], IfNone, IfSome, length, take};
+ghost use Rattle.std.specs.Prelude.{◌≡◌, ◌≢◌, ◌<◌, ◌⊎◌, ◌≤◌, ℕ, List, Option, [], IfNone, IfSome, length};
 ghost use Rattle.journal_single.specs.Record.{IsForeign};
 ghost use Rattle.simplex_record.specs.Lawful.{IsLawful, IsRefusedAt};
 ghost use Rattle.cli_tool.specs.ToolAnswers.{Entry, HoldsEntries, IsEntry, IsEvidence, attests_in, certifies_in, entry_spelling};
 ghost use Rattle.cli_tool.specs.Decoding.{message_size};
-ghost use Rattle.cli_hosted.specs.Statuses.{Names};
+ghost use Rattle.cli_calls.specs.Told.{IsPut, Names};
 ghost use Rattle.simplex_c.specs.Answers.{Tells, kind_at, owner};
 
 use crate::decoding::decoded;
 use crate::told_answers::{audited, checked};
-use cli_hosted::{Found, Status};
+use cli_calls::Found;
+use cli_hosted::Status;
 use simplex_record::Owner;
 use std::alloc::Global;
 use types_core::{Epoch, Participant, TermLength};
@@ -30,8 +31,8 @@ pub extern "C" fn voumlis_proved_audit(
     ensures nobody { members ≡ 0 → result ≡ 2 }
     ensures somebody { members ≢ 0 → result ≢ 2 }
     ensures evidence { result ≡ 0
-        → (fault : Option ℕ) × Names found.new.named found.new.place fault × IsEvidence members reports.now
-        (take found.new.length evidence.new) fault }
+        → (fault : Option ℕ) × (written : List ℕ) × Names found.new.named found.new.place fault × IsEvidence members reports.now written
+        fault × (found.new.length ≡ length written) × IsPut written evidence.old evidence.new }
     ensures room { result ≡ 3
         → (fault : Option ℕ) × (written : List ℕ) × Names found.new.named found.new.place fault × IsEvidence members reports.now written
         fault × (found.new.length ≡ length written) × (length evidence.old < length written) }

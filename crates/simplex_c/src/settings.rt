@@ -7,7 +7,7 @@ ghost use Rattle.cli_settings.specs.declared.fault.SettingsFault.{SettingsFault}
 ghost use Rattle.voter_rules.specs.declared.config.Again.{Again as Repairing};
 ghost use Rattle.voter_rules.specs.declared.config.ForwardPolicy.{ForwardPolicy as Forwarding};
 ghost use Rattle.voter_rules.specs.declared.config.SkipPolicy.{SkipPolicy as Skipping};
-ghost use Rattle.cli_hosted.specs.Statuses.{Names};
+ghost use Rattle.cli_calls.specs.Told.{Names};
 ghost use Rattle.simplex_c.specs.Settings.{HasForm, IsUnfit, SaysCommittee, SaysConduct, SaysSeed, SaysSettings, SaysSkip, again_number, forward_number, truth_number, unfit_place, unfit_status};
 ghost use Rattle.simplex_c.specs.declared.settings.Unfit.TheVariants.{Fault};
 

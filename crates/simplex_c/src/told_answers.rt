@@ -1,41 +1,17 @@
 //! Questions about bytes that a caller holds.
 
-ghost use Rattle.std.specs.Prelude.{◌≡◌, ◌≢◌, ◌<◌, ◌⊎◌, ℕ, List, Option, [], None, Some, length, take};
+ghost use Rattle.std.specs.Prelude.{◌≡◌, ◌≢◌, ◌<◌, ◌⊎◌, ℕ, List, Option, [], length};
 ghost use Rattle.journal_single.specs.Record.{IsForeign};
 ghost use Rattle.simplex_record.specs.Lawful.{IsLawful, IsRefusedAt};
 ghost use Rattle.cli_tool.specs.ToolAnswers.{Entry, HoldsEntries, IsEntry, IsEvidence, attests_in, certifies_in, entry_spelling};
-ghost use Rattle.cli_hosted.specs.Statuses.{Names};
+ghost use Rattle.cli_calls.specs.Told.{IsPut, Names};
 ghost use Rattle.cli_hosted.specs.declared.status.Status.TheVariants.{Done, Foreign as IsForeignEntry, Memory, Refused, Room};
 
-use cli_hosted::{Found, Status, put};
+use cli_calls::{Found, answered};
+use cli_hosted::Status;
 use cli_tool::{Checked, check_record, evidence_in};
 use simplex_record::Owner;
 use std::alloc::Global;
-
-/// Puts an answer at the front of the caller's room, where it fits, and tells its size and the place that it names.
-fn answered(answer: &[u8], place: Option<usize>, room: &mut [u8], found: &mut Found) -> Status
-    ensures names { Names found.new.named found.new.place place }
-    ensures length { found.new.length ≡ length answer.now }
-    ensures answers { (result ≡ Done) ⊎ (result ≡ Room) }
-    ensures done { result ≡ Done → take (length answer.now) room.new ≡ answer.now }
-    ensures room { result ≡ Room → (room.new ≡ room.old) × (length room.old < length answer.now) }
-{
-    found.tell(answer.len(), wide(place));
-    if !put(answer, room) {
-        return Status::Room;
-    }
-    Status::Done
-}
-
-/// The same place.
-fn wide(place: Option<usize>) -> Option<u64>
-    ensures { result ≡ place }
-{
-    match place {
-        Some(place) => Some(place as u64),
-        None => None,
-    }
-}
 
 /// The evidence that an audit of these reports finds, at the front of the caller's room.
 pub(crate) fn audited(
@@ -48,15 +24,15 @@ pub(crate) fn audited(
     requires { 0 < members }
     ensures answers { (result ≡ Done) ⊎ ((result ≡ Memory) ⊎ (result ≡ Room)) }
     ensures evidence { result ≡ Done
-        → (fault : Option ℕ) × Names found.new.named found.new.place fault × IsEvidence members reports.now (take found.new.length room.new)
-        fault }
+        → (fault : Option ℕ) × (written : List ℕ) × Names found.new.named found.new.place fault × IsEvidence members reports.now written
+        fault × (found.new.length ≡ length written) × IsPut written room.old room.new }
     ensures room { result ≡ Room
         → (fault : Option ℕ) × (written : List ℕ) × Names found.new.named found.new.place fault × IsEvidence members reports.now written
         fault × (found.new.length ≡ length written) × (length room.old < length written) }
     ensures unwritten { result ≢ Done → room.new ≡ room.old }
 {
     match evidence_in(alloc, members, reports) {
-        Ok((written, fault)) => answered(&written, fault, room, found),
+        Ok((written, fault)) => Status::fitted(answered(&written, fault, room, found)),
         Err(_) => Status::Memory,
     }
 }

@@ -24,7 +24,7 @@ use Rattle.std.specs.contracts.impls.GlobalAllocator.TheImpl as heap_impl
 use Rattle.world_page.specs.contracts.session.Session as session
 use Rattle.world_page.specs.contracts.place.Place as place
 use Rattle.cli_calls.specs.Kept.{owned}
-use Rattle.cli_calls.proofs.Values.{both}
+use Rattle.cli_calls.specs.LooseValues.{both}
 
 abbrev pub Z : RattleType
 Z = heap.the_row

@@ -42,7 +42,7 @@ impl Handle {
     }
 
     /// The session, if one is open. Behind the call none is.
-    #[tactic(auto, using(cli_calls::proofs::Kept::none_by))]
+    #[tactic(auto, using(cli_calls::specs::KeptLaws::none_by))]
     pub(crate) fn taken(&mut self, alloc: Global) -> Option<Box<Session>>
         ensures live { self.old.live ≡ 1 → IsSome result }
         ensures dead { self.old.live ≢ 1 → result ≡ None }

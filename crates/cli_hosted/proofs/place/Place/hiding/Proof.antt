@@ -20,7 +20,7 @@ use Rattle.std.proofs.alloc.Calls.{Goes-blank}
 use Rattle.std.proofs.raw_atomic.Walks.{proved_at, leaves}
 use Rattle.std.proofs.alloc.Global.TheLaws as heap_laws
 use Rattle.std.specs.contracts.impls.GlobalAllocator.TheImpl as heap_impl
-use Rattle.cli_hosted.proofs.Values.{Loose, both, loose_good, loose_out}
+use Rattle.cli_calls.specs.LooseValues.{Loose, both, loose_good, loose_out}
 use Rattle.cli_hosted.proofs.Places.{R, Z, place_in}
 use Rattle.cli_hosted.specs.contracts.place.Place.hiding.{ended, clauses}
 use Rattle.cli_hosted.specs.contracts.place.Place.hiding.Key.{name as #self}

@@ -22,7 +22,7 @@ use Rattle.std.proofs.ResultValues.{and_tt}
 use mir.Val.{has_ty}
 use Rattle.std.proofs.raw_atomic.Walks.{proved_at, leaves}
 use Rattle.std.proofs.alloc.Global.TheLaws as heap_laws
-use Rattle.cli_hosted.proofs.Values.{both}
+use Rattle.cli_calls.specs.LooseValues.{both}
 use Rattle.cli_hosted.proofs.Places.{R, Z, place_in}
 use Rattle.cli_hosted.specs.contracts.place.Place.nothing.{ended, clauses}
 use Rattle.cli_hosted.specs.contracts.place.Place.nothing.Key.{name as #self}

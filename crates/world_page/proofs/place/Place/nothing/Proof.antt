@@ -22,7 +22,7 @@ use Rattle.std.proofs.ResultValues.{and_tt}
 use mir.Val.{has_ty}
 use Rattle.std.proofs.raw_atomic.Walks.{proved_at, leaves}
 use Rattle.std.proofs.alloc.Global.TheLaws as heap_laws
-use Rattle.cli_calls.proofs.Values.{both}
+use Rattle.cli_calls.specs.LooseValues.{both}
 use Rattle.world_page.proofs.Places.{R, Z, place_in}
 use Rattle.world_page.specs.contracts.place.Place.nothing.{ended, clauses}
 use Rattle.world_page.specs.contracts.place.Place.nothing.Key.{name as #self}

@@ -21,8 +21,8 @@ use Rattle.std.proofs.alloc.Calls.{Goes-blank}
 use Rattle.std.proofs.raw_atomic.Walks.{proved_at, leaves}
 use Rattle.std.proofs.alloc.Global.TheLaws as heap_laws
 use Rattle.std.specs.contracts.impls.GlobalAllocator.TheImpl as heap_impl
-use Rattle.cli_calls.proofs.Values.{both, loose_good, loose_in}
-use Rattle.cli_calls.proofs.Kept.{value_of}
+use Rattle.cli_calls.specs.LooseValues.{both, loose_good, loose_in}
+use Rattle.cli_calls.specs.KeptLaws.{value_of}
 use Rattle.world_page.proofs.Places.{Place, R, Z, place_out}
 use Rattle.world_page.specs.contracts.place.Place.shown.{ended, clauses}
 use Rattle.world_page.specs.contracts.place.Place.shown.Key.{name as #self}
