@@ -262,7 +262,7 @@ impl<S: Scheme<D>, D: Digest> Tables<S, D> {
         }
     }
 
-    /// Whether this went out for now, of a view that isn't final: it was asked, and asks don't go again, or it did.
+    /// Whether this went out for now, of a view that isn't final: it was asked; since the time was told last, where asks go again.
     pub fn was_sent(&self, asked: &Asked, again: Again) -> bool
         ensures { AtEach self.now (λ low h.
             (s : Setup S D S.Certificate) → s.repair.again ≡ again → low < asked.now.view → IsTrue result ↔ Contains (sent_of s h) asked.now) }
