@@ -4,6 +4,8 @@ Acts that hand nothing out are of two sorts. Those of the first only tell one pa
 at once. Those of the second take something back or give something up, and are done where a reply can't be understood
 otherwise, or at its end.
 """
+from itertools import islice
+
 from .asked import builds, checks, has_number, is_answered, is_out, last_heard, next_number, pending
 from .due import (
     best_certificate, due_builds, due_certifies, due_finalizes, due_notarizes, due_verifications, invalid_views,
@@ -161,7 +163,7 @@ def asks(h):
     """What members are asked for, where it wasn't yet or goes again: all of them for the first views to repair, as many as are asked
     for at once, and for notarizations that verdicts wait for, a leader for what its proposal lacks; and what stands until a
     finalization."""
-    sought = [(view, NULLIFICATION, BACKFILL, None) for view in outstanding(h)[: h.setup.window]]
+    sought = [(view, NULLIFICATION, BACKFILL, None) for view in islice(outstanding(h), h.setup.window)]
     sought += [(view, NOTARIZATION, ANCESTRY, None) for view in wanted_certificates(h)]
     sought += [(lacks, kind, ANCESTRY, leader(h, view)) for view, kind, lacks in while_numbers_last(h, missing(h))]
     for ask in dict.fromkeys(sought + pending(h)):

@@ -3,9 +3,9 @@ answers are those of the product, byte by byte, whatever the scheme."""
 from itertools import islice
 
 from .acts import (
-    asked_builds, asked_verifications, certifies, constructions, is_answered, latches, own_votes, repetitions, tellings,
-    while_numbers_last, withdrawals,
+    asked_builds, asked_verifications, certifies, constructions, latches, own_votes, repetitions, tellings, while_numbers_last, withdrawals,
 )
+from .asked import is_out, pending
 from .due import missing, wanted_certificates
 from .history import Asks, Forwards, Leads, PutsOff, Repeats, Resolves, Votes
 from .player import Player
@@ -20,8 +20,8 @@ def signed(h):
 
 
 def asked(h, sought):
-    """Of what is sought what wasn't asked for."""
-    return (Asks(*ask) for ask in sought if not is_answered(h, *ask))
+    """Of what is sought what didn't go out for now."""
+    return (Asks(*ask) for ask in sought if not is_out(h, *ask))
 
 
 def on_proposals(h):
@@ -51,7 +51,8 @@ def acts(h, sign):
     yield from (it for it in reasons if it.reason == LEADER_NULLIFY)
     yield from withdrawals(h)
     yield from asked_builds(h)
-    yield from asked(h, ((view, NULLIFICATION, BACKFILL, None) for view in outstanding(h)))
+    yield from asked(h, ((view, NULLIFICATION, BACKFILL, None) for view in islice(outstanding(h), h.setup.window)))
+    yield from asked(h, pending(h))
     yield from (it for it in reasons if it.reason == INACTIVITY)
     yield from own_votes(h, sign)
     yield from repetitions(h)

@@ -1,4 +1,7 @@
 """Which views a member has to repair, and what it serves to others: all by what it recorded of certificates and verdicts."""
+from heapq import merge
+from itertools import groupby
+
 from .history import has_begun, over
 from .record import certificates, finalizes, is_judged, judged, recorded_by
 from .values import FINALIZATION, NOTARIZATION, NULLIFICATION, Certificate, Verdict
@@ -23,6 +26,33 @@ def highest(view, here):
     return max(view, artifact.view) if isinstance(artifact, Certificate) else view
 
 
+class Ascending:
+    """Views in their order, each found when it is first asked for: between two far certificates there are too many to find all."""
+
+    def __init__(self, views):
+        self.found, self.rest = [], views
+
+    def __iter__(self):
+        place = 0
+        while place < len(self.found) or self.finds_another():
+            yield self.found[place]
+            place += 1
+
+    def finds_another(self):
+        view = next(self.rest, None)
+        self.found += () if view is None else (view,)
+        return view is not None
+
+
+def openings(h):
+    """Ascending, above the floor: the view right above it and each start of a term, as long as they lie below the highest
+    certificate's view."""
+    view = floor(h) + 1
+    while view < highest(h):
+        yield view
+        view = h.setup.terms.next_start(view)
+
+
 @over(())
 def outstanding(views, here):
     """The views to repair, ascending: not covered, above the floor, and either below the highest certificate's view and right
@@ -30,14 +60,9 @@ def outstanding(views, here):
     changes them."""
     if not has_begun(here) or (recorded_by(here.point, here.setup.epoch) is None and has_begun(here.before)):
         return views
-    low, terms = floor(here), here.setup.terms
-    found = {view for view, ok in judged(here) if not ok and view > low and not is_covered(here, view)}
-    view = low + 1
-    while view < highest(here):
-        if not is_covered(here, view):
-            found.add(view)
-        view = terms.next_start(view)
-    return tuple(sorted(found))
+    failed = sorted(view for view, ok in judged(here) if not ok and view > floor(here))
+    told = (view for view, _ in groupby(merge(failed, openings(here))))
+    return Ascending(view for view in told if not is_covered(here, view))
 
 
 def is_settled(h, view, kind):

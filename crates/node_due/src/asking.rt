@@ -150,7 +150,7 @@ pub(crate) fn try_again<S: Scheme<D> + Drop, L: Elector<S, D>, D: Digest, K: Dis
 ) -> Result<Acted, NodeFault>
     ensures tried { AtOwn S.Scheme L.Elector K.Disk ⟦<S as Speaks<D>>⟧.formats core.old (λ f s h.
         WasTried S.Scheme L.Elector K.Disk f s is_none (NoneToAskAgain S.Scheme f s) core.old core.new h out.old.items out.new.items result) }
-    ensures faults { TellsOfDisk K.Disk (disks_of core.old) (disks_of core.new) result }
+    ensures faults { TellsOfBook K.Disk (book_of core.old) (book_of core.new) result }
 {
     a_ledger_at_rest_leaves_its_record::<S, D, K>();
     silent_points_leave_votes::<S, D>();

@@ -1,7 +1,9 @@
 -- What a set has behind one element more, or without its first ones, beside what a list has.
 use Rattle.std.proofs.Common.{◌≡◌, ◌≢◌, ◌==◌, ◌↔◌, ◌⊎◌, ◌≤◌, ◌<◌, ◌+◌, ◌-◌, ◌^◌, ◌∙◌, inl, inr, ⊎_elim, ℕ, min, Bool, true, false, cond, List, ◌∷◌, Option, Some, sym, ap, subst, arith}
-use Rattle.std.specs.Prelude.{Contains, IsTrue, OnOk, Result, Ok, Err, if◌then◌else◌}
+use Rattle.std.specs.Prelude.{Contains, IsTrue, OnErr, OnOk, Result, Ok, Err, if◌then◌else◌}
+use Rattle.std.specs.BTreeSet.{BTreeSet, contains}
 use Rattle.std.specs.Ordering.{is_eq, nat_cmp}
+use Rattle.std.specs.declared.cmp.Ordering.{Ordering}
 use Rattle.std.proofs.lemmas.Bool.{cases_lt}
 use Rattle.std.proofs.lemmas.Bool.Decides.{nat_tests}
 use Rattle.types_quorum.specs.Counting.{Contains-cases, Contains-head, Contains-rest}
@@ -31,16 +33,21 @@ pub same_of_all : (old new : Bool) (C : Type 0) → new ≡ old → IsTrue old �
 same_of_all old new C same told = (λ there. told.0 (sym same ∙ there), λ c. same ∙ told.1 c)
 
 -- one that was new, put in and taken back
-pub taken_back : {X : Type 0} (k a : X) (C : Type 0) (Old Mid New : X → Type 0) → (Old k → ⊥) → Mid a ↔ (Old a ⊎ (k ≡ a)) → New a ↔ (Mid a × (a ≢ k)) → Old a ↔ C → New a ↔ C
-taken_back {X} k a C Old Mid New is_new more fewer told = (
-  λ there. let m = fewer.0 there in ⊎_elim (λ old. told.0 old) (λ is. absurd (m.1 (sym is))) (more.0 m.0),
-  λ c. let old = told.1 c in fewer.1 (more.1 (inl old), λ is. is_new (subst Old is old)),
+pub taken_back : {X : Type 0} (cmp : X → X → Ordering) (k a : X) (old mid new : BTreeSet X) (C : Type 0) → ¬ IsTrue (contains cmp old k) → IsTrue (contains cmp mid a) ↔ (IsTrue (contains cmp old a) ⊎ (k ≡ a)) → IsTrue (contains cmp new a) ↔ (IsTrue (contains cmp mid a) × (a ≢ k)) → IsTrue (contains cmp old a) ↔ C → IsTrue (contains cmp new a) ↔ C
+taken_back {X} cmp k a old mid new C is_new more fewer told = (
+  λ there. let m = fewer.0 there in ⊎_elim (λ was. told.0 was) (λ is. absurd (m.1 (sym is))) (more.0 m.0),
+  λ c. let was = told.1 c in fewer.1 (more.1 (inl was), λ is. is_new (subst (λ (x : X). IsTrue (contains cmp old x)) is was)),
 )
 
 -- what follows where a call succeeded
 pub on_ok-map : {T E P Q : Type 0} (r : Result T E) → (P → Q) → OnOk r P → OnOk r Q
 on_ok-map (Ok x) f p = f p
 on_ok-map (Err e) f p = p
+
+-- what holds where it failed
+pub on_err : {T E : Type 0} (r : Result T E) (P : Type 0) → P → OnErr r P
+on_err (Ok x) P p = tt
+on_err (Err e) P p = p
 
 -- without those up to a number
 pub left_above : (low last u : ℕ) (old new : Bool) (C : Type 0) → low ≤ last → (u ≤ last → ¬ IsTrue new) → (last < u → new ≡ old) → IsTrue old ↔ ((low < u) × C) → IsTrue new ↔ ((last < u) × C)

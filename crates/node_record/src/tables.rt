@@ -230,9 +230,8 @@ impl<S: Scheme<D>, D: Digest> Tables<S, D> {
             (AtEach self.old (λ low h. low < asked.view → KeepsTables low self.new (Asks asked.view asked.ask asked.to ∷ h))) }
         ensures memory { OnErr result (AtEach self.old (λ low h. KeepsTables low self.new h)) }
     {
-        let Asked { view, ask, to } = asked;
-        let is_new = put_ask(&mut self.asks_now, view, ask, to)?;
-        match put_ask(&mut self.asks, view, ask, to) {
+        let is_new = put_ask(&mut self.asks_now, asked.view, asked.ask, asked.to)?;
+        match put_ask(&mut self.asks, asked.view, asked.ask, asked.to) {
             Ok(_) => Ok(()),
             Err(error) => {
                 if is_new {
@@ -263,7 +262,7 @@ impl<S: Scheme<D>, D: Digest> Tables<S, D> {
         }
     }
 
-    /// Whether this went out for now, of a view that isn't final: it was asked, and asks don't go again, or it did.
+    /// Whether this went out for now, of a view that isn't final: it was asked; since the time was told last, where asks go again.
     pub fn was_sent(&self, asked: &Asked, again: Again) -> bool
         ensures { AtEach self.now (λ low h.
             (s : Setup S D S.Certificate) → s.repair.again ≡ again → low < asked.now.view → IsTrue result ↔ Contains (sent_of s h) asked.now) }

@@ -105,7 +105,7 @@ module _ {S D P G C : Type 0} (g : Ghosts S D P G C) (f : Formats S D P G C) (s 
     where
       none_seen : (o : Option ℕ) → option_map (λ (n : ℕ). 0 + n) o ≡ o
       none_seen None = refl
-      none_seen (Some n) = refl
+      none_seen (Some n) = let same : 0 + n ≡ n = omega arith in ap Some same
 
   one_more_seen : (h : History S D P G C) (seen : List ℕ) (view : ℕ) (left : List ℕ) (more rest : Option ℕ) → more ≡ option_map (λ (n : ℕ). n + 1) rest → IsGoneOver h seen (view ∷ left) more → IsGoneOver h (seen ++ view ∷ []) left rest
   one_more_seen h seen view left more rest is over = record {

@@ -70,3 +70,4 @@ mod Above
 mod Stands
 mod Based
 mod Asks
+mod Untouched

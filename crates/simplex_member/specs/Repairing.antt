@@ -20,10 +20,12 @@ use Rattle.voter_rules.specs.declared.config.Again.TheVariants as again
 use Rattle.voter_rules.specs.declared.config.RepairPolicy.{RepairPolicy}
 use Rattle.simplex_member.specs.Allowed.{Allowed, RepeatIsDue, RetryIsKnown, VoteIsDue}
 use Rattle.simplex_member.specs.Asked.{asks_of}
-use Rattle.simplex_member.specs.Layers.{current_of, known_of, latest, repair_of, voter_of}
+use Rattle.simplex_member.specs.Deeds.{deeds_of}
+use Rattle.simplex_member.specs.Layers.{current_of, is_begun, known_of, latest, repair_of, voter_of}
 use Rattle.simplex_member.specs.Member.{Goes, IsGivenUpAt}
 use Rattle.simplex_member.specs.Packet.{Formats}
-use Rattle.simplex_member.specs.Point.{Point, Asks, Constructs, Repeats, AreActs, History}
+use Rattle.simplex_member.specs.Point.{Point, Asks, Constructs, PutsOff, Repeats, Resolves, AreActs, History}
+use Rattle.simplex_member.specs.Recorded.{kept_of}
 use Rattle.simplex_member.specs.Setup.{Setup, member_of}
 
 -- the setup with another policy of repair
@@ -49,6 +51,13 @@ module _ {S D P G C : Type 0} where
   abbrev pub makes_none : Point S D P G C → Bool
   makes_none (Constructs view kind batch) = not (is_some batch.certificate)
   makes_none p = true
+
+  -- a point is an ask, or stands only where something was asked for
+  abbrev pub is_of_asks : Point S D P G C → Bool
+  is_of_asks (PutsOff view) = true
+  is_of_asks (Asks view ask to) = true
+  is_of_asks (Resolves view kind u) = true
+  is_of_asks p = false
 
 module _ {S D P G C : Type 0} (g : Ghosts S D P G C) (f : Formats S D P G C) (s : Setup S D C) where
   -- ---- asks go again with repeated nullifies alone
@@ -99,3 +108,16 @@ module _ {S D P G C : Type 0} (g : Ghosts S D P G C) (f : Formats S D P G C) (s 
 
   abbrev pub NothingElseWaitsForAsks : Type 0
   NothingElseWaitsForAsks = (h : History S D P G C) → VotesWaitForNoAsk h × ((policy : RepairPolicy) → IsOfAsksAlone policy h)
+
+  -- ---- an ask changes nothing else
+
+  -- behind this point all that is not of asks may come that might before it, and no more, and hands out the same; the same is kept, and
+  -- the current view would be given up at the same moments
+  pub record ChangesAsksAlone (h : History S D P G C) (p : Point S D P G C) : Type 0 where
+    pub comes : (q : Point S D P G C) → is_of_asks q ≡ false → Allowed g f s h q ↔ Allowed g f s (p ∷ h) q
+    pub hands_out : (q : Point S D P G C) → deeds_of g f s (p ∷ h) q ≡ deeds_of g f s h q
+    pub keeps : kept_of s.voter.length (p ∷ h) ≡ kept_of s.voter.length h
+    pub wakes : (now : ℕ) → IsGivenUpAt g f s h now ↔ IsGivenUpAt g f s (p ∷ h) now
+
+  abbrev pub AsksChangeNothingElse : Type 0
+  AsksChangeNothingElse = (h : History S D P G C) (view : ℕ) (ask : Ask) (to : Option ℕ) → is_begun h ≡ true → ChangesAsksAlone h (Asks view ask to)

@@ -1,7 +1,7 @@
 //! What follows from how a member repairs.
 
 ghost use Rattle.simplex_member.specs.Packet.{Formats};
-ghost use Rattle.simplex_member.specs.Repairing.{AsksAreInTheirWindow, AsksGoAgainWithNullifies, NothingElseWaitsForAsks};
+ghost use Rattle.simplex_member.specs.Repairing.{AsksAreInTheirWindow, AsksChangeNothingElse, AsksGoAgainWithNullifies, NothingElseWaitsForAsks};
 ghost use Rattle.simplex_member.specs.Setup.{Setup};
 
 use types_core::{Digest, Scheme};
@@ -21,4 +21,9 @@ pub fn asks_are_in_their_window<S: Scheme<D>, D: Digest>()
 /// moments.
 pub fn nothing_else_waits_for_asks<S: Scheme<D>, D: Digest>()
     ensures { (f : Formats S D S.PublicKey S.Signature S.Certificate) (s : Setup S D S.Certificate) → NothingElseWaitsForAsks S.Scheme f s }
+{}
+
+/// Behind an ask all else may come that might before it, a vote, a block or what is recorded, and hands out the same.
+pub fn asks_change_nothing_else<S: Scheme<D>, D: Digest>()
+    ensures { (f : Formats S D S.PublicKey S.Signature S.Certificate) (s : Setup S D S.Certificate) → AsksChangeNothingElse S.Scheme f s }
 {}

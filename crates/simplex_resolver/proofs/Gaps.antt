@@ -37,10 +37,10 @@ in_cases y xs x (suc k, below, is) = inr (k, omega (arith, below), is)
 
 module _ (test : ℕ → Bool) where
   step_yes : (more last : ℕ) → test (last + 1) ≡ true → those_behind test (suc more) last ≡ (last + 1) ∷ those_behind test more (last + 1)
-  step_yes more last yes = ap (λ (b : Bool). if b then (last + 1) ∷ those_behind test more (last + 1) else those_behind test more (last + 1)) yes
+  step_yes more last passed = ap (λ (b : Bool). if b then (last + 1) ∷ those_behind test more (last + 1) else those_behind test more (last + 1)) passed
 
   step_no : (more last : ℕ) → test (last + 1) ≡ false → those_behind test (suc more) last ≡ those_behind test more (last + 1)
-  step_no more last no = ap (λ (b : Bool). if b then (last + 1) ∷ those_behind test more (last + 1) else those_behind test more (last + 1)) no
+  step_no more last failing = ap (λ (b : Bool). if b then (last + 1) ∷ those_behind test more (last + 1) else those_behind test more (last + 1)) failing
 
   -- the first of them, and those behind it
   those_first : (count last v : ℕ) → last < v → v ≤ last + count → test v ≡ true → ((u : ℕ) → last < u → u < v → test u ≡ false) → those_behind test count last ≡ v ∷ those_behind test (last + count - v) v
@@ -65,12 +65,12 @@ module _ (test : ℕ → Bool) where
   those_to : (count last v : ℕ) → Contains (those_behind test count last) v → (last < v) × (test v ≡ true)
   those_to zero last v there = absurd (none_in v there)
   those_to (suc n) last v there = elim (bool_cases (test (last + 1))) [
-    | inl yes ↦ ⊎_elim
-        (λ e. (omega (arith, e), subst (λ (u : ℕ). test u ≡ true) e yes))
+    | inl passed ↦ ⊎_elim
+        (λ e. (omega (arith, e), subst (λ (u : ℕ). test u ≡ true) e passed))
         (λ later. let r = those_to n (last + 1) v later in ((let past = r.0 in omega (arith, past)), r.1))
-        (in_cases (last + 1) (those_behind test n (last + 1)) v (subst (λ (xs : List ℕ). Contains xs v) (step_yes n last yes) there))
-    | inr no ↦
-        let r = those_to n (last + 1) v (subst (λ (xs : List ℕ). Contains xs v) (step_no n last no) there) in
+        (in_cases (last + 1) (those_behind test n (last + 1)) v (subst (λ (xs : List ℕ). Contains xs v) (step_yes n last passed) there))
+    | inr failing ↦
+        let r = those_to n (last + 1) v (subst (λ (xs : List ℕ). Contains xs v) (step_no n last failing) there) in
         ((let past = r.0 in omega (arith, past)), r.1)
   ]
 
@@ -80,13 +80,13 @@ module _ (test : ℕ → Bool) where
     | inl before ↦
         let rest = those_from n (last + 1) v before (omega (arith, le)) is in
         elim (bool_cases (test (last + 1))) [
-          | inl yes ↦ subst (λ (xs : List ℕ). Contains xs v) (sym (step_yes n last yes)) (later_in (last + 1) (those_behind test n (last + 1)) v rest)
-          | inr no ↦ subst (λ (xs : List ℕ). Contains xs v) (sym (step_no n last no)) rest
+          | inl passed ↦ subst (λ (xs : List ℕ). Contains xs v) (sym (step_yes n last passed)) (later_in (last + 1) (those_behind test n (last + 1)) v rest)
+          | inr failing ↦ subst (λ (xs : List ℕ). Contains xs v) (sym (step_no n last failing)) rest
         ]
     | inr here ↦
         let e : last + 1 ≡ v = omega (arith, past, here) in
-        let yes : test (last + 1) ≡ true = subst (λ (u : ℕ). test u ≡ true) (sym e) is in
-        subst (λ (xs : List ℕ). Contains xs v) (sym (step_yes n last yes))
+        let passed : test (last + 1) ≡ true = subst (λ (u : ℕ). test u ≡ true) (sym e) is in
+        subst (λ (xs : List ℕ). Contains xs v) (sym (step_yes n last passed))
         (subst (λ (u : ℕ). Contains ((last + 1) ∷ those_behind test n (last + 1)) u) e (first_in (last + 1) (those_behind test n (last + 1))))
   ]
 
@@ -94,17 +94,17 @@ module _ (test : ℕ → Bool) where
   those_above : (count last low : ℕ) → low ≤ last → AllByRecursion (λ v. nat_cmp low v ≡ Less) (those_behind test count last)
   those_above zero last low le = tt
   those_above (suc n) last low le = elim (bool_cases (test (last + 1))) [
-    | inl yes ↦ subst (λ (xs : List ℕ). AllByRecursion (λ v. nat_cmp low v ≡ Less) xs) (sym (step_yes n last yes))
+    | inl passed ↦ subst (λ (xs : List ℕ). AllByRecursion (λ v. nat_cmp low v ≡ Less) xs) (sym (step_yes n last passed))
         (less_from_lt low (last + 1) (omega (arith, le)), those_above n (last + 1) low (omega (arith, le)))
-    | inr no ↦ subst (λ (xs : List ℕ). AllByRecursion (λ v. nat_cmp low v ≡ Less) xs) (sym (step_no n last no)) (those_above n (last + 1) low (omega (arith, le)))
+    | inr failing ↦ subst (λ (xs : List ℕ). AllByRecursion (λ v. nat_cmp low v ≡ Less) xs) (sym (step_no n last failing)) (those_above n (last + 1) low (omega (arith, le)))
   ]
 
   pub those_ascend : (count last : ℕ) → IsStrictlySortedBy nat_cmp (those_behind test count last)
   unfolding IsStrictlySortedBy
   those_ascend zero last = tt
   those_ascend (suc n) last = elim (bool_cases (test (last + 1))) [
-    | inl yes ↦ subst (λ (xs : List ℕ). IsStrictlySortedBy nat_cmp xs) (sym (step_yes n last yes)) (those_above n (last + 1) (last + 1) (omega arith), those_ascend n (last + 1))
-    | inr no ↦ subst (λ (xs : List ℕ). IsStrictlySortedBy nat_cmp xs) (sym (step_no n last no)) (those_ascend n (last + 1))
+    | inl passed ↦ subst (λ (xs : List ℕ). IsStrictlySortedBy nat_cmp xs) (sym (step_yes n last passed)) (those_above n (last + 1) (last + 1) (omega arith), those_ascend n (last + 1))
+    | inr failing ↦ subst (λ (xs : List ℕ). IsStrictlySortedBy nat_cmp xs) (sym (step_no n last failing)) (those_ascend n (last + 1))
   ]
 
 -- a number of some is at most the greatest
@@ -155,7 +155,7 @@ covered_from [] v e = absurd (grind (arith, e))
 covered_from (span ∷ spans) v e = elim (or_cases (nat_le span.0 v && nat_le v span.1) (is_in spans v) e) [
   | inl here ↦
       let both = and_cases (nat_le span.0 v) (nat_le v span.1) here in
-      (span, first_in span spans, le_of span.0 v both.0, le_of v span.1 both.1)
+      (span, first_in span spans, (le_of span.0 v both.0, le_of v span.1 both.1))
   | inr later ↦ in_later span spans v (covered_from spans v later)
 ]
 
@@ -200,7 +200,7 @@ module _ (s : Scanner) where
 
   gap_by : (v : ℕ) → s.live ≡ true → s.floor < v → ¬ IsCovered s.held.covered v → (is_anchor s v || is_failed s v) ≡ true → is_gap s v ≡ true
   gap_by v on above bare due =
-      let gone : is_in s.held.covered v ≡ false = elim (bool_cases (is_in s.held.covered v)) [ inl is ↦ absurd (bare (covered_from s.held.covered v is)) | inr no ↦ no ] in
+      let gone : is_in s.held.covered v ≡ false = elim (bool_cases (is_in s.held.covered v)) [ inl is ↦ absurd (bare (covered_from s.held.covered v is)) | inr failing ↦ failing ] in
       and_both s.live (nat_lt s.floor v && bare_test v) on
       (and_both (nat_lt s.floor v) (bare_test v) (nat_lt-yes s.floor v above)
       (and_both (not (is_in s.held.covered v)) (is_anchor s v || is_failed s v) (not_false (is_in s.held.covered v) gone) due))
@@ -212,7 +212,7 @@ module _ (s : Scanner) where
   gap_from v (on, inr f) = gap_by v on f.above f.bare (or_right (is_anchor s v) (is_failed s v) (and_both (nat_lt (v + 1) (2 ^ 64)) (contains nat_cmp s.held.failed v) (nat_lt-yes (v + 1) (2 ^ 64) f.fits) f.failed))
 
   no_gap : (v : ℕ) → ¬ IsGap s v → is_gap s v ≡ false
-  no_gap v none = elim (bool_cases (is_gap s v)) [ inl is ↦ absurd (none (gap_to v is)) | inr no ↦ no ]
+  no_gap v none = elim (bool_cases (is_gap s v)) [ inl is ↦ absurd (none (gap_to v is)) | inr failing ↦ failing ]
 
   gap_within : (v : ℕ) → IsGap s v → v ≤ last_gap s
   gap_within v (on, inl a) = let below = a.below in grind (arith, nat_tests, below)
@@ -244,7 +244,7 @@ module _ (s : Scanner) where
         record {
           live_is = sym k.live_is ∙ on;
           above = omega (arith, above, floor_is);
-          bare = elim (bool_cases (covered views h v)) [ inl is ↦ absurd (a.bare ((k.holds.covered_is v (late above)).1 is)) | inr no ↦ no ];
+          bare = elim (bool_cases (covered views h v)) [ inl is ↦ absurd (a.bare ((k.holds.covered_is v (late above)).1 is)) | inr failing ↦ failing ];
           due = inl (omega (arith, below, current_is), ⊎_elim (λ e. inl (omega (arith, e, floor_is))) (λ term. inr (rw k.holds.length_is at term)) a.anchor);
         }
     gap_outstanding (on, inr f) =
@@ -253,7 +253,7 @@ module _ (s : Scanner) where
         record {
           live_is = sym k.live_is ∙ on;
           above = omega (arith, above, floor_is);
-          bare = elim (bool_cases (covered views h v)) [ inl is ↦ absurd (f.bare ((k.holds.covered_is v (late above)).1 is)) | inr no ↦ no ];
+          bare = elim (bool_cases (covered views h v)) [ inl is ↦ absurd (f.bare ((k.holds.covered_is v (late above)).1 is)) | inr failing ↦ failing ];
           due = inr (and_cases (nat_lt (finalized h) v) (has_failed h v) (sym (k.holds.failed v) ∙ f.failed)).1;
         }
 
@@ -390,9 +390,8 @@ module _ (s : Scanner) (last : ℕ) where
 
   -- of both kinds the first
   none_of_both : IsFirstAbove (IsAnchorGap s) last None → (found : Option ℕ) → IsFirstAbove (IsFailedGap s) last found → s.live ≡ true → IsFirstAbove (IsGap s) last found
-  none_of_both no_anchor None no_failed on v past (live_is, inl a) = no_anchor v past a
-  none_of_both no_anchor None no_failed on v past (live_is, inr f) = no_failed v past f
-  none_of_both no_anchor (Some first) is on = (is.0, (on, inr is.1), λ v past short gap. ⊎_elim (λ a. no_anchor v past a) (λ f. is.2 v past short f) gap.1)
+  none_of_both none_due None none_bad on = λ v past gap. ⊎_elim (λ a. none_due v past a) (λ f. none_bad v past f) gap.1
+  none_of_both none_due (Some first) is on = (is.0, (on, inr is.1), λ v past short gap. ⊎_elim (λ a. none_due v past a) (λ f. is.2 v past short f) gap.1)
 
   failed_before : (anchor failed : ℕ) → failed < anchor → IsFirstAbove (IsAnchorGap s) last (Some anchor) → IsFirstAbove (IsFailedGap s) last (Some failed) → s.live ≡ true → IsFirstAbove (IsGap s) last (Some failed)
   failed_before anchor failed before a f on = (f.0, (on, inr f.1), λ v past short gap. ⊎_elim (λ x. a.2 v past (omega (arith, short, before)) x) (λ x. f.2 v past short x) gap.1)

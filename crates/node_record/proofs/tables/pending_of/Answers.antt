@@ -5,18 +5,19 @@ use Rattle.std.proofs.lemmas.Map.Iter.{iter_end}
 use Rattle.simplex_member.specs.declared.asked.Asked.{Asked}
 use Rattle.node_record.proofs.Pending.{among_keys, kept_more, kept_no_more, none_kept, stands, stands_not}
 use Rattle.node_record.proofs.tables.pending_of.Goals as goal
-use Rattle.node_record.proofs.tables.pending_of.Goals.{then-eq+in_ok-push, else-eq}
 
 pub loop-asked-init : goal.loop-asked-init
 loop-asked-init c = rw c.new-pending.ensures.items none_kept
 
+-- it stands until a finalization
+pub loop-asked-preserved-in-Continue-1 : goal.loop-asked-preserved-in-Continue-1
+loop-asked-preserved-in-Continue-1 c = rw c.in_ok-push.ensures.items
+    (kept_more c.loop-asked.yielded c.in-Some.asked c.loop-asked.pending.items (stands c.in-Some.asked.now.ask.until c.eq.result c.eq.ensures c.if-eq.true) c.loop-asked.invariant)
+
+-- it doesn't
 pub loop-asked-preserved : goal.loop-asked-preserved
-loop-asked-preserved c = elim c.if-eq.branch [
-  | then-eq+in_ok-push w ↦ rw w.pending-is (rw w.in_ok-push.ensures.items
-      (kept_more c.loop-asked.yielded c.in-Some.asked c.loop-asked.pending.items (stands c.in-Some.asked.now.ask.until c.eq.result c.eq.ensures w.if-eq.true) c.loop-asked.invariant))
-  | else-eq w ↦ rw w.pending-is
-      (kept_no_more c.loop-asked.yielded c.in-Some.asked c.loop-asked.pending.items (stands_not c.in-Some.asked.now.ask.until c.eq.result c.eq.ensures w.if-eq.false) c.loop-asked.invariant)
-]
+loop-asked-preserved c =
+    kept_no_more c.loop-asked.yielded c.in-Some.asked c.loop-asked.pending.items (stands_not c.in-Some.asked.now.ask.until c.eq.result c.eq.ensures c.if-eq.false) c.loop-asked.invariant
 
 pub returns : goal.returns
 returns c =

@@ -12,4 +12,4 @@ returns-then-asks_again g c = λ low h k s again_is above.
 -- they don't, so all do
 pub returns-else-asks_again : goal.returns-else-asks_again
 returns-else-asks_again g c = λ low h k s again_is above.
-    rw c.contains.ensures (sent_all s h c.args.asked.now _ low above (ap (λ (q : Again). goes_again q && was_repeated h) again_is ∙ (sym (c.asks_again.ensures low h k) ∙ c.if-asks_again.false)) (k.asks c.args.asked.now))
+    rw c.contains-else-asks_again.ensures (sent_all s h c.args.asked.now _ low above (ap (λ (q : Again). goes_again q && was_repeated h) again_is ∙ (sym (c.asks_again.ensures low h k) ∙ c.if-asks_again.false)) (k.asks c.args.asked.now))

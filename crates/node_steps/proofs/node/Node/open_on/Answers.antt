@@ -105,8 +105,8 @@ returns-in-Ok-open_over-clause-contradiction g c =
     IfErr-weaker c.begin.result _ _ (λ r told position index own is. absurd (⊎_elim (λ memory. cc (memory, is)) (λ device. cc (device, is)) told)) c.begin.ensures.memory
 
 -- the journal that was opened hasn't failed
-pub begin-requires-clause-running : goal.begin-requires-clause-running
-begin-requires-clause-running g c = subst (λ (b : _). words.has_failed b ≡ false) (sym c.in-Ok-open_over.ensures.book) c.in-Ok-opened.ensures.opened.keeps.runs
+pub begin-requires : goal.begin-requires
+begin-requires g c = subst (λ (b : _). words.has_failed b ≡ false) (sym c.in-Ok-open_over.ensures.book) c.in-Ok-opened.ensures.opened.keeps.runs
 
 -- nor has a disk failed
 pub returns-in-Ok-open_over-clause-device : goal.returns-in-Ok-open_over-clause-device
