@@ -106,7 +106,7 @@ returns-in-Ok-open_over-clause-contradiction g c =
 
 -- the journal that was opened hasn't failed
 pub begin-requires : goal.begin-requires
-begin-requires g c = subst (λ (b : _). words.has_failed b ≡ false) (sym c.in-Ok-open_over.ensures.book) c.in-Ok-opened.ensures.opened.keeps.runs
+begin-requires g c = record { running = subst (λ (b : _). words.has_failed b ≡ false) (sym c.in-Ok-open_over.ensures.book) c.in-Ok-opened.ensures.opened.keeps.runs }
 
 -- nor has a disk failed
 pub returns-in-Ok-open_over-clause-device : goal.returns-in-Ok-open_over-clause-device
