@@ -1,7 +1,6 @@
 -- What was asked until a finalization, asked for again one after the other.
 use Rattle.std.proofs.Common.{◌≡◌, ◌≢◌, ◌⊎◌, ◌<◌, ◌&&◌, ◌∷◌, ◌∙◌, [], inl, inr, ⊎_elim, ℕ, Bool, true, false, List, refl, sym, ap, subst}
-use Rattle.std.specs.Prelude.{Contains, if◌then◌else◌, not}
-use Rattle.std.proofs.lemmas.Bool.{false≢true}
+use Rattle.std.specs.Prelude.{Contains, if◌then◌else◌}
 use Rattle.std.proofs.lemmas.List.Elements.{All-nil}
 use Rattle.types_quorum.specs.Counting.{Contains-cases, Contains-head, Contains-nil, Contains-rest}
 use Rattle.types_core.specs.declared.scheme.Scheme.{Ghosts}
@@ -30,11 +29,6 @@ use Rattle.node_requests.proofs.Seeking.{HasSought, StandsAside, seeks, stands_a
 never_true : (b : Bool) → (b ≡ true → ⊥) → b ≡ false
 never_true true never = absurd (never refl)
 never_true false never = refl
-
--- what a test says that is turned
-pub unless_not : (b : Bool) → not b ≡ true → b ≡ false
-unless_not true is = absurd (false≢true is)
-unless_not false is = refl
 
 module _ {S D P G C : Type 0} (g : Ghosts S D P G C) (f : Formats S D P G C) (s : Setup S D C) where
   -- what stands was sent again but what is left; and where none was, nothing changed

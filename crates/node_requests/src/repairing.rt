@@ -153,10 +153,9 @@ fn ask_each_again<S: Scheme<D>, D: Digest>(
     repair_and_voter_finalize_alike::<S, D>();
     let mut acted = Acted::Nothing;
     for asked in pending {
-        match fetch(alloc, *asked, again, repair, tables, out) {
-            Ok(true) => acted = Acted::Did,
-            Ok(_) => {}
-            Err(fault) => return Err(fault),
+        let sent = fetch(alloc, *asked, again, repair, tables, out)?;
+        if sent {
+            acted = Acted::Did;
         }
     }
     Ok(acted)
