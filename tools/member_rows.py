@@ -20,7 +20,7 @@ PROGRAM = {
     "epoch": "0", "genesis": f'"{"00" * 32}"', "base": '"simplex"', "term-length": "4", "stall-timeout": "10000", "optimistic-views": "2",
     "leader-timeout": "1000", "certification-timeout": "2000", "retry-timeout": "5000", "retention": "10", "skips": "true",
     "skip-timeout": "8000", "forwarding": '"disabled"', "repair": '"with-nullify"', "repair-window": "1024", "historical-votes": "true",
-    "rewrite-views": "0",
+    "rewrite-views": "1000",
 }
 LEFT = "left as it is, "
 CUTS = "; --cut cuts there, and may take votes that were sent"

@@ -28,9 +28,10 @@ program_conduct = record {
   rewrite_views = 0;
 }
 
--- how each other program is, where nothing else is set: asks go again with each repeated nullify, for 1,024 views at once
+-- how each other program is, where nothing else is set: asks go again with each repeated nullify, for 1,024 views at once, and a record is
+-- rewritten whenever 1,000 views more are final, too
 abbrev pub usual_conduct : Conduct
-usual_conduct = record program_conduct { repair = again.WithNullify; repair_window = 1024 }
+usual_conduct = record program_conduct { repair = again.WithNullify; repair_window = 1024; rewrite_views = 1000 }
 
 -- the payload that view 0 stands for
 abbrev pub zeros : List ℕ

@@ -107,13 +107,15 @@ impl Conduct {
         }
     }
 
-    /// That of each other program, where nothing else is set: the same, but that asks go again, for so many views at once.
+    /// That of each other program, where nothing else is set: the same, but that asks go again, for so many views at once, and that
+    /// the record is rewritten while the member runs.
     pub const fn usual() -> Conduct
         ensures { result ≡ usual_conduct }
     {
         Conduct {
             repair: Again::WithNullify,
             repair_window: 1_024,
+            rewrite_views: 1_000,
             ..Conduct::of_program()
         }
     }

@@ -75,7 +75,7 @@ module _ (t : Members) where
     pub repair : Gives (λ policy. string (again_word policy)) usual_conduct.repair (under key.Repair t) c.repair
     pub repair_window : Gives whole usual_conduct.repair_window (under key.RepairWindow t) c.repair_window
     pub track_historical_votes : Gives boolean true (under key.HistoricalVotes t) c.track_historical_votes
-    pub rewrite_views : Gives whole program_conduct.rewrite_views (under key.RewriteViews t) c.rewrite_views
+    pub rewrite_views : Gives whole usual_conduct.rewrite_views (under key.RewriteViews t) c.rewrite_views
 
   -- the 32 bytes of which a text has the hexadecimal digits, or zeros
   abbrev pub SaysGenesis : List ℕ → Type 0

@@ -34,7 +34,7 @@ pub struct MemberFile {
 }
 
 /// What the text says, in TOML. A key that isn't there has its default, which is the setting of `simplex node`, but that asks go
-/// again; the number of members and the member's index have none.
+/// again and the record is rewritten meanwhile; the number of members and the member's index have none.
 ///
 /// # Errors
 ///
