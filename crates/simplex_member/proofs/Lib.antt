@@ -70,4 +70,5 @@ mod Above
 mod Stands
 mod Based
 mod Asks
+mod Again
 mod Untouched

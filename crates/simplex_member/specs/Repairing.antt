@@ -1,5 +1,5 @@
 -- What follows from how a member repairs, as statements. Each is proved where a function without a body has it as a clause (`repairing.rt`).
-use Rattle.std.specs.Prelude.{◌≡◌, ◌↔◌, ◌≤◌, ◌++◌, not, is_some, length, ℕ, Bool, true, false, List, [], ◌∷◌, All, Contains, Option, Some, if◌then◌else◌}
+use Rattle.std.specs.Prelude.{◌≡◌, ◌⊎◌, ◌↔◌, ◌≤◌, ◌++◌, not, is_some, length, ℕ, Bool, true, false, List, [], ◌∷◌, All, Contains, Option, Some, None, if◌then◌else◌}
 use Rattle.types_core.specs.declared.scheme.Scheme.{Ghosts}
 use Rattle.messages_certificates.specs.declared.certificate.Certificate.{Certificate}
 use Rattle.messages_certificates.specs.declared.nullify.Nullify.{Nullify}
@@ -10,6 +10,7 @@ use Rattle.simplex_resolver.specs.declared.ask.Ask.{Ask}
 use Rattle.simplex_resolver.specs.declared.ask.Until.{Until}
 use Rattle.simplex_resolver.specs.declared.ask.Until.TheVariants as until
 use Rattle.simplex_resolver.specs.Answers.{is_settled}
+use Rattle.simplex_resolver.specs.Outstanding.{IsOutstanding}
 use Rattle.voter_history.specs.History.{seen}
 use Rattle.voter_history.specs.Past as past
 use Rattle.voter_rules.specs.Ancestry.{held_at}
@@ -19,10 +20,10 @@ use Rattle.simplex_member.specs.declared.asked.Asked.{Asked}
 use Rattle.voter_rules.specs.declared.config.Again.TheVariants as again
 use Rattle.voter_rules.specs.declared.config.RepairPolicy.{RepairPolicy}
 use Rattle.simplex_member.specs.Allowed.{Allowed, RepeatIsDue, RetryIsKnown, VoteIsDue}
-use Rattle.simplex_member.specs.Asked.{asks_of}
+use Rattle.simplex_member.specs.Asked.{IsInWindow, IsPending, asks_now, asks_of, backfill}
 use Rattle.simplex_member.specs.Deeds.{deeds_of}
 use Rattle.simplex_member.specs.Layers.{current_of, is_begun, known_of, latest, repair_of, voter_of}
-use Rattle.simplex_member.specs.Member.{Goes, IsGivenUpAt}
+use Rattle.simplex_member.specs.Member.{Goes, IsGivenUpAt, NoAskIsDue}
 use Rattle.simplex_member.specs.Packet.{Formats}
 use Rattle.simplex_member.specs.Point.{Point, Asks, Constructs, PutsOff, Repeats, Resolves, AreActs, History}
 use Rattle.simplex_member.specs.Recorded.{kept_of}
@@ -78,6 +79,28 @@ module _ {S D P G C : Type 0} (g : Ghosts S D P G C) (f : Formats S D P G C) (s 
   abbrev pub AsksGoAgainWithNullifies : Type 0
   AsksGoAgainWithNullifies = (h : History S D P G C) (view : ℕ) (ask : Ask) (to : Option ℕ) → Allowed g f s h (Asks view ask to)
       → Contains (asks_of h) (record { view = view; ask = ask; to = to }) → WentWithNullify h (record { view = view; ask = ask; to = to })
+
+  -- ---- asks do go again
+
+  -- this view is to be left behind, and among the first of those: all are to be asked for what lets a member do so
+  pub record IsToBeLeft (h : History S D P G C) (view : ℕ) (ask : Ask) (to : Option ℕ) : Type 0 where
+    pub is : ask ≡ backfill
+    pub of_all : to ≡ None
+    pub outstanding : IsOutstanding s.voter.length (repair_of f h) view
+    pub within : IsInWindow f s h view
+
+  -- this still stands at the end: the view is to be left behind, or it was asked until a finalization before; and nothing settled it
+  pub record StillStands (before end : History S D P G C) (view : ℕ) (ask : Ask) (to : Option ℕ) : Type 0 where
+    pub stands : IsToBeLeft end view ask to ⊎ IsPending before view ask to
+    pub unsettled : is_settled s.voter.length (repair_of f end) view ask.kind ≡ false
+
+  -- where asks go again, and acts among which a nullify was repeated left none due, each that still stands was asked in these acts, or
+  -- before them since the time was told last
+  abbrev pub UnsettledAsksGoAgain : Type 0
+  UnsettledAsksGoAgain = (h end : History S D P G C) (acts : List (Point S D P G C)) (vote : Nullify S D P G C) (best : Option (Certificate S D P G C))
+      → s.repair.again ≡ again.WithNullify → AreActs acts → Goes g f s h acts end → Contains acts (Repeats vote best) → NoAskIsDue g f s end
+      → (view : ℕ) (ask : Ask) (to : Option ℕ) → StillStands h end view ask to
+      → Contains (asks_now h) (record { view = view; ask = ask; to = to }) ⊎ Contains acts (Asks view ask to)
 
   -- ---- asks are in their window
 

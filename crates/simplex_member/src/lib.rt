@@ -34,7 +34,7 @@ pub use laws::{
 pub use refusal::Refusal;
 pub use repairing::{
     asks_are_in_their_window, asks_change_nothing_else, asks_go_again_with_nullifies,
-    nothing_else_waits_for_asks,
+    nothing_else_waits_for_asks, unsettled_asks_go_again,
 };
 pub use sent::{none_stays_unsent, sent_votes_were_due};
 pub use speaks::Speaks;

@@ -1,7 +1,7 @@
 //! What follows from how a member repairs.
 
 ghost use Rattle.simplex_member.specs.Packet.{Formats};
-ghost use Rattle.simplex_member.specs.Repairing.{AsksAreInTheirWindow, AsksChangeNothingElse, AsksGoAgainWithNullifies, NothingElseWaitsForAsks};
+ghost use Rattle.simplex_member.specs.Repairing.{AsksAreInTheirWindow, AsksChangeNothingElse, AsksGoAgainWithNullifies, NothingElseWaitsForAsks, UnsettledAsksGoAgain};
 ghost use Rattle.simplex_member.specs.Setup.{Setup};
 
 use types_core::{Digest, Scheme};
@@ -9,6 +9,12 @@ use types_core::{Digest, Scheme};
 /// What is asked a second time in an opening goes with a repeated nullify, where the setup has it so, and isn't settled.
 pub fn asks_go_again_with_nullifies<S: Scheme<D>, D: Digest>()
     ensures { (f : Formats S D S.PublicKey S.Signature S.Certificate) (s : Setup S D S.Certificate) → AsksGoAgainWithNullifies S.Scheme f s }
+{}
+
+/// Where the setup has it so, what still stands and nothing settled does go again: behind acts with a repeated nullify that
+/// leave no ask due, each such ask went out since the time was told last.
+pub fn unsettled_asks_go_again<S: Scheme<D>, D: Digest>()
+    ensures { (f : Formats S D S.PublicKey S.Signature S.Certificate) (s : Setup S D S.Certificate) → UnsettledAsksGoAgain S.Scheme f s }
 {}
 
 /// Behind one event a member asks for no more views to leave behind than its window has, unless it makes a certificate
