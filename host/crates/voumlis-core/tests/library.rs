@@ -223,7 +223,7 @@ mod there {
     }
 
     #[test]
-    fn both_rewrite_a_record_of_themselves_where_so_many_views_more_are_final() {
+    fn the_library_rewrites_a_record_of_itself_as_the_child_does() {
         let folder = tempfile::tempdir().unwrap();
         let settings = NodeSettings {
             rewrite_views: 10,
