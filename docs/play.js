@@ -240,17 +240,31 @@ function say() {
 /** The form's values: what the text says, unless it says what no control has. */
 let values = plainScenario();
 
+/** What was typed as a whole number between these; what is none is as it was. */
+function bounded(typed, least, most, before = least) {
+  const given = Math.round(Number(typed));
+  return typed !== "" && Number.isFinite(given) ? Math.min(Math.max(given, least), most) : before;
+}
+
 function number(value, least, most, name, take) {
   const input = document.createElement("input");
   Object.assign(input, { type: "number", min: least, max: most, step: 1, value, title: `${name}: ${least} to ${most}` });
   input.setAttribute("aria-label", name);
   input.onchange = () => {
-    const given = Math.round(Number(input.value));
-    input.value = Number.isFinite(given) ? Math.min(Math.max(given, least), most) : value;
-    take(Number(input.value));
+    input.value = value = bounded(input.value, least, most, value);
+    take(value);
     fromForm();
   };
   return input;
+}
+
+/** A control of one of some words. */
+function choice(value, words, name, take) {
+  const select = document.createElement("select");
+  select.replaceChildren(...Object.entries(words).map(([word, says]) => new Option(says, word, false, word === value)));
+  select.setAttribute("aria-label", name);
+  select.onchange = () => { take(select.value); fromForm(); };
+  return select;
 }
 
 function fillForm() {
@@ -263,68 +277,76 @@ function fillForm() {
       set.append(legend);
       groups.set(group, set);
     }
-    fields.forEach(([name, , least, most], place) => {
-      const label = document.createElement("label");
-      label.className = "field";
-      const input = number(values.numbers[word][place], least, most, name, (given) => { values.numbers[word][place] = given; });
-      input.id = `${word}-${place}`;
-      label.append(name, input);
-      groups.get(group).append(label);
-    });
+    groups.get(group).append(...fields.map((field, place) => fieldOf(word, field, place)));
   }
   at("fields").replaceChildren(...groups.values());
-  rows("liars", values.liars, liarRow);
-  rows("crashes", values.crashes, crashRow);
-  rows("joins", values.joins, joinRow);
-  rows("downs", values.downs, downRow);
-  rows("cuts", values.cuts, cutRow);
+  fillRows();
 }
 
-function rows(id, list, make) {
-  at(id).replaceChildren(...list.map((each, place) => {
-    const row = document.createElement("div"), remove = document.createElement("button");
-    remove.textContent = "remove";
-    remove.setAttribute("aria-label", `remove ${id} ${place + 1}`);
-    remove.onclick = () => { list.splice(place, 1); fromForm(); fillForm(); };
-    row.append(...make(each), remove);
-    return row;
-  }));
+/** The control of a line's value, in its label. How many members there are bounds what rows say of one. */
+function fieldOf(word, [name, , ...bounds], place) {
+  const label = document.createElement("label"), value = values.settings[word][place];
+  const take = (given) => { values.settings[word][place] = given; if (word === "members") fillRows(); };
+  const input = typeof bounds[0] === "object" ? choice(value, bounds[0], name, take) : number(value, ...bounds, name, take);
+  label.className = "field";
+  input.id = `${word}-${place}`;
+  label.append(name, input);
+  return label;
 }
 
-const last = () => values.numbers.members[0] - 1;
+/** What may come several times, a row each: how one is made, and what a new one says. */
+const ROWS = {
+  liars: [liarRow, () => ({ member: last(), ways: ["two-votes"] })],
+  crashes: [numbersRow, () => [0, 3, 5, 500]],
+  joins: [numbersRow, () => [last(), 5000]],
+  downs: [numbersRow, () => [0, 1000 + 10000 * values.downs.length, 6000 + 10000 * values.downs.length]],
+  cuts: [cutRow, () => [0, 2000, "0"]],
+};
+
+function fillRows() {
+  for (const [id, [make]] of Object.entries(ROWS)) {
+    at(id).replaceChildren(...values[id].map((each, place) => {
+      const row = document.createElement("div"), remove = document.createElement("button");
+      remove.textContent = "remove";
+      remove.setAttribute("aria-label", `remove row ${place + 1}`);
+      remove.onclick = () => { values[id].splice(place, 1); changeRows(); at(`add-${id}`).focus(); };
+      row.append(...make(each, id), remove);
+      return row;
+    }));
+  }
+}
+
+function changeRows() {
+  fromForm();
+  fillRows();
+}
+
+const last = () => values.settings.members[0] - 1;
 
 function liarRow(liar) {
-  const boxes = Object.entries(WAYS).map(([way, does]) => {
+  const does = document.createElement("span"), say = () => { does.textContent = liar.ways.map((way) => WAYS[way]).join("; "); };
+  const boxes = Object.keys(WAYS).map((way) => {
     const label = document.createElement("label"), box = document.createElement("input");
     Object.assign(box, { type: "checkbox", checked: liar.ways.includes(way) });
-    box.onchange = () => { liar.ways = Object.keys(WAYS).filter((it) => (it === way ? box.checked : liar.ways.includes(it))); fromForm(); };
-    label.title = does;
+    box.onchange = () => { liar.ways = Object.keys(WAYS).filter((it) => (it === way ? box.checked : liar.ways.includes(it))); say(); fromForm(); };
+    label.title = WAYS[way];
     label.append(box, way);
     return label;
   });
-  return ["member", number(liar.member, 0, last(), "who lies", (given) => { liar.member = given; }), ...boxes];
+  does.className = "none";
+  say();
+  return ["member", number(liar.member, 0, last(), "who lies", (given) => { liar.member = given; }), ...boxes, does];
 }
 
-function crashRow(crash) {
-  const of = (place, name, least, most) => number(crash[place], least, most, name, (given) => { crash[place] = given; });
-  return ["member", of(0, "who crashes", 0, last()), "in view", of(1, "in which view", 1, 10000), "after calls", of(2, "after so many calls of its disk", 0, 10000), "down, ms", of(3, "for so long", 0, 1e6)];
-}
-
-function joinRow(join) {
-  const of = (place, name, least, most) => number(join[place], least, most, name, (given) => { join[place] = given; });
-  return ["member", of(0, "who joins late", 0, last()), "at, ms", of(1, "joins at", 1, 1e9)];
-}
-
-function downRow(down) {
-  const of = (place, name, least, most) => number(down[place], least, most, name, (given) => { down[place] = given; });
-  return ["member", of(0, "who is killed", 0, last()), "from, ms", of(1, "killed at", 0, 1e8), "until", of(2, "opened again at", 1, 1e9)];
+function numbersRow(row, id) {
+  return LISTS[id][1].flatMap(([before, name, least = 0, most = last()], place) => [before, number(row[place], least, most, name, (given) => { row[place] = given; })]);
 }
 
 function cutRow(cut) {
   const of = (place, name) => number(cut[place], 0, 1e8, name, (given) => { cut[place] = given; }), side = document.createElement("input");
   Object.assign(side, { type: "text", value: cut[2], pattern: "\\d+(,\\d+)*" });
   side.setAttribute("aria-label", "members of the one side");
-  side.onchange = () => { if (/^\d+(,\d+)*$/.test(side.value)) cut[2] = side.value; else side.value = cut[2]; fromForm(); };
+  side.onchange = () => { if (isSide(side.value)) cut[2] = side.value; else side.value = cut[2]; fromForm(); };
   return ["from, ms", of(0, "from"), "until", of(1, "until"), "members", side];
 }
 
@@ -339,7 +361,7 @@ function fromText(text, about = "") {
   at("text").value = text;
   const found = scenarioOf(text);
   if (found) { values = found; fillForm(); }
-  at("about").textContent = [about, found ? sentenceOf(found) : "Controls don't have all of these lines: the text counts."].filter(Boolean).join(" ");
+  at("about").textContent = [about, found ? sentenceOf(found) : "A line here is none that controls have: the text counts, until a control is changed."].filter(Boolean).join(" ");
 }
 
 function fillPresets() {
@@ -391,9 +413,8 @@ async function answer(file) {
 }
 
 async function examined(file) {
-  const bytes = new Uint8Array(await file.arrayBuffer()), members = Math.min(Math.max(Math.round(at("count").value), 0) || 0, 65535);
-  const isRecord = at("is-record").checked, owner = Math.min(Math.max(Math.round(at("owner").value), 0) || 0, 65535);
-  const asks = isRecord ? ["record", members, owner, bytes] : ["audit", members, bytes];
+  const bytes = new Uint8Array(await file.arrayBuffer()), members = bounded(at("count").value, 0, 65535);
+  const asks = at("is-record").checked ? ["record", members, bounded(at("owner").value, 0, 65535), bytes] : ["audit", members, bytes];
   const helper = worker();
   const { status, text } = await helper.ask(...asks);
   helper.end();
@@ -407,14 +428,10 @@ function wire() {
   at("speed").replaceChildren(...SPEEDS.map(([name], place) => new Option(name === "all" ? "as fast as it can" : `× ${name}`, place)));
   at("speed").value = 3;
   at("open").onclick = () => open();
-  at("another").onclick = () => { values.seed = Math.floor(Math.random() * 1e9); setSeed(values.seed); open(); };
-  at("seed").onchange = () => { values.seed = Math.min(Math.max(Math.round(Number(at("seed").value)) || 0, 0), 1e9); setSeed(values.seed); };
+  at("another").onclick = () => { setSeed(Math.floor(Math.random() * MOST_NUMBER)); open(); };
+  at("seed").onchange = () => { setSeed(bounded(at("seed").value, 0, MOST_NUMBER, values.seed)); };
   at("text").onchange = () => fromText(at("text").value);
-  at("add-liar").onclick = () => { values.liars.push({ member: last(), ways: ["two-votes"] }); fromForm(); fillForm(); };
-  at("add-crash").onclick = () => { values.crashes.push([0, 3, 5, 500]); fromForm(); fillForm(); };
-  at("add-join").onclick = () => { values.joins.push([last(), 5000]); fromForm(); fillForm(); };
-  at("add-down").onclick = () => { values.downs.push([0, 1000 + 10000 * values.downs.length, 6000 + 10000 * values.downs.length]); fromForm(); fillForm(); };
-  at("add-cut").onclick = () => { values.cuts.push([0, 2000, "0"]); fromForm(); fillForm(); };
+  for (const [id, [, fresh]] of Object.entries(ROWS)) at(`add-${id}`).onclick = () => { values[id].push(fresh()); changeRows(); };
   at("link").onclick = link;
   at("play").onclick = toggle;
   at("step").onclick = step;
