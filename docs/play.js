@@ -8,11 +8,11 @@ const SPEEDS = [["1/20", 0.05], ["1/10", 0.1], ["1/4", 0.25], ["1/2", 0.5], ["1"
 const BATCH = 4000, AHEAD = 30000, PER_FRAME = 1500;
 /** Of what a followed run shows, in milliseconds; what is told of; how often somebody who wants no motion is shown a new picture. */
 const SPAN = 1500, TOLD = 40, STILL = 500;
-const isStill = window.matchMedia("(prefers-reduced-motion: reduce)");
+const isStill = window.matchMedia("(prefers-reduced-motion: reduce)"), isNarrow = window.matchMedia("(max-width: 1050px)");
 
 const play = {
   engine: null, bytes: null, run: null, queue: [], place: 0, isAsked: false, isDone: true, isPlaying: false, seeks: null, clock: 0, ended: null, led: [], last: null,
-  drawn: 0, before: 0, epoch: 0, worst: 0,
+  drawn: 0, before: 0, epoch: 0, frames: 0,
 };
 
 // ---- the module
@@ -24,6 +24,7 @@ function begin() {
   at("built").textContent = `${PAGE_MODULE.proved ? "proved" : "UNPROVED"}, commit ${PAGE_MODULE.commit}, ${PAGE_MODULE.kit}`;
   at("whose").textContent = PAGE_MODULE.proved ? "The nodes that run are the library's own, proved, and compiled for this page." : "The nodes that run are the library's own, but nothing of this build was proved.";
   at("built").title = `sha256 ${PAGE_MODULE.sha256}, ${PAGE_MODULE.bytes} bytes`;
+  play.bytes = moduleBytes(PAGE_MODULE);
   restart();
   return true;
 }
@@ -35,14 +36,13 @@ function restart() {
 }
 
 function worker() {
-  play.bytes ??= moduleBytes(PAGE_MODULE);
   return new Remote(ENGINE_SOURCE, play.bytes, PAGE_MODULE.memory);
 }
 
 function refuse(why) {
   at("wrong").textContent = why;
   at("hint").textContent = why;
-  for (const id of ["open", "play", "step", "lie", "crash", "split", "finish", "stop", "file"]) at(id).disabled = true;
+  for (const id of ["open", "play", "step", "lie", "crash", "split", "finish", "stop", "another", "file"]) at(id).disabled = true;
   return false;
 }
 
@@ -56,24 +56,25 @@ function asked(text) {
 
 /** Opens the scenario in place of what is played. */
 async function open(isPlaying = true) {
+  if (!play.bytes) return;
   const epoch = ++play.epoch;
   at("wrong").textContent = "";
   restart();
-  Object.assign(play, { run: null, queue: [], place: 0, isAsked: false, isDone: false, seeks: null, clock: 0, ended: null, led: [], last: null, worst: 0 });
+  Object.assign(play, { run: null, queue: [], place: 0, isAsked: false, isDone: false, seeks: null, clock: 0, ended: null, led: [], last: null });
   picture.choose(null);
   at("told").replaceChildren();
   at("named").textContent = "";
-  const status = await play.engine.ask("open", asked(at("text").value), true);
+  const answer = await play.engine.ask("open", asked(at("text").value), true);
   if (epoch !== play.epoch) return;
-  if (status !== STATUS.DONE) return broken(status);
+  if (answer.status !== STATUS.DONE) return broken(answer);
   setPlaying(isPlaying);
   await more();
 }
 
-function broken(status) {
+function broken({ status, trouble }) {
   play.isDone = true;
   setPlaying(false);
-  at("wrong").textContent = status === STATUS.MEMORY ? "Memory ran out: the run can't go on." : `The module answers ${status?.status ?? status}.`;
+  at("wrong").textContent = trouble ?? (status === STATUS.MEMORY ? "Memory ran out: the run can't go on." : `The module answers ${status}.`);
 }
 
 /** Asks for the lines to come, where few wait. */
@@ -88,7 +89,7 @@ async function more() {
 }
 
 /** Takes lines up. */
-function taken({ status, text, ended }) {
+function taken({ status, text, ended, trouble }) {
   if (play.place > 0) { play.queue.splice(0, play.place); play.place = 0; }
   for (const line of text.split("\n")) {
     const event = readLine(line);
@@ -104,7 +105,7 @@ function taken({ status, text, ended }) {
     }
     play.queue.push(event);
   }
-  if (status !== STATUS.DONE) return broken(status);
+  if (status !== STATUS.DONE) return broken({ status, trouble });
   if (ended !== null && ended !== undefined) { play.isDone = true; play.ended = ended; }
   if (!play.isDone) more();
 }
@@ -127,7 +128,7 @@ const isOver = () => play.isDone && play.place >= play.queue.length;
 
 /** A frame: as many events as the clock has come to, and the picture of them. */
 function frame(now) {
-  const begun = performance.now(), gone = Math.min(now - play.before, 100);
+  const gone = Math.min(now - play.before, 100);
   play.before = now;
   if (play.run && (play.isPlaying || play.seeks)) {
     advance(gone);
@@ -136,8 +137,7 @@ function frame(now) {
       play.drawn = now;
       show();
     }
-    play.frames = (play.frames ?? 0) + 1;
-    play.worst = Math.max(play.worst, performance.now() - begun);
+    play.frames += 1;
   }
   requestAnimationFrame(frame);
 }
@@ -162,8 +162,7 @@ function stopSeeking() {
 
 /** Looks for the next event of a kind. */
 function seek(seeks) {
-  if (!play.run) return;
-  play.seeks = seeks;
+  if (play.run) play.seeks = seeks;
 }
 
 const IS = {
@@ -193,6 +192,7 @@ async function stop() {
 function setPlaying(isPlaying) {
   play.isPlaying = isPlaying;
   at("play").textContent = isPlaying ? "Pause" : "Play";
+  at("said").setAttribute("aria-live", isPlaying ? "off" : "polite"); // what passes by is too much to be read out
 }
 
 // ---- what is shown
@@ -364,12 +364,19 @@ function fromText(text, about = "") {
   at("about").textContent = [about, found ? sentenceOf(found) : "A line here is none that controls have: the text counts, until a control is changed."].filter(Boolean).join(" ");
 }
 
+/** The scenarios to begin with: those that tell something, and those that a tool made. */
 function fillPresets() {
-  const presets = scenariosOf(PRESETS);
-  at("preset").replaceChildren(...presets.map(({ told: comment, text }, place) => new Option(/^scenario/.test(comment) ? `${place + 1}: ${sentenceOf(scenarioOf(text) ?? plainScenario())}` : `${place + 1}: ${comment}`, place)));
+  const presets = scenariosOf(PRESETS), isMade = ({ told: comment }) => /^scenario/.test(comment);
+  const groups = [["Told", (each) => !isMade(each)], ["Made by chance", isMade]].map(([name, holds]) => {
+    const group = document.createElement("optgroup");
+    group.label = name;
+    group.append(...presets.filter(holds).map((each) => new Option(isMade(each) ? sentenceOf(scenarioOf(each.text) ?? plainScenario()) : each.told, presets.indexOf(each))));
+    return group;
+  });
+  at("preset").replaceChildren(...groups);
   at("preset").onchange = () => {
-    const { told: comment, text } = presets[at("preset").value];
-    fromText(text.split("\n").filter((line) => !/^(lines|format) /.test(line)).join("\n"), /^scenario/.test(comment) ? "" : comment);
+    const preset = presets[at("preset").value];
+    fromText(preset.text.split("\n").filter((line) => !/^(lines|format) /.test(line)).join("\n"), isMade(preset) ? "" : preset.told);
     open();
   };
   return presets;
@@ -404,6 +411,7 @@ const answering = { asked: 0, told: 0 };
 
 /** Tells what a file says. Of two the last one is told, whichever is read sooner; a folder, or a file that is gone, can't be read. */
 async function answer(file) {
+  if (!play.bytes) return;
   const number = ++answering.asked;
   at("answer").textContent = "…";
   const told = await examined(file).catch((error) => `${file.name || "it"} can't be read: ${error.message}`);
@@ -463,7 +471,7 @@ async function toggle() {
 }
 
 function press(key) {
-  if (key.ctrlKey || key.metaKey || key.altKey || /^(INPUT|SELECT|TEXTAREA)$/.test(key.target.tagName)) return;
+  if (!at("keyed").checked || key.ctrlKey || key.metaKey || key.altKey || /^(INPUT|SELECT|TEXTAREA|SUMMARY)$/.test(key.target.tagName)) return;
   const [left, right] = picture.span(), by = (right - left) / 8, away = () => picture.moved();
   const does = {
     " ": () => key.target.tagName === "BUTTON" || toggle(), "ArrowRight": step, "l": () => seek(IS.lie), "c": () => seek(IS.crash), "x": () => seek(IS.split), "e": () => seek(IS.finish),
@@ -478,9 +486,10 @@ function press(key) {
 wire();
 const presets = fillPresets();
 picture.choose(null);
+at("change").open = !isNarrow.matches;
+const isLinked = fromLink();
+if (!isLinked) fromText(presets[0].text, presets[0].told);
 if (begin()) {
-  if (fromLink()) open(false); else { fromText(presets[0].text, presets[0].told); }
+  if (isLinked) open(false);
   requestAnimationFrame(frame);
-} else {
-  fromText(presets[0].text, presets[0].told);
 }
