@@ -6,12 +6,12 @@ const at = (id) => document.getElementById(id), picture = drawing();
 const SPEEDS = [["1/20", 0.05], ["1/10", 0.1], ["1/4", 0.25], ["1/2", 0.5], ["1", 1], ["3", 3], ["10", 10], ["100", 100], ["all", Infinity]];
 /** Events that the worker is asked for at once, lines that wait here at most, and lines that one frame takes. */
 const BATCH = 4000, AHEAD = 30000, PER_FRAME = 1500;
-/** Of what a followed run shows, in milliseconds; what is told of; how often somebody who wants no motion is shown a new picture. */
-const SPAN = 1500, TOLD = 40, STILL = 500;
+/** How much a followed run shows, in milliseconds; how many events are told; how often somebody who wants no motion is shown a new picture. */
+const SPAN = 1500, TOLD = 13, STILL = 500;
 const isStill = window.matchMedia("(prefers-reduced-motion: reduce)"), isNarrow = window.matchMedia("(max-width: 1050px)");
 
 const play = {
-  engine: null, bytes: null, run: null, queue: [], place: 0, isAsked: false, isDone: true, isPlaying: false, seeks: null, clock: 0, ended: null, led: [], last: null,
+  engine: null, bytes: null, run: null, queue: [], place: 0, isAsked: false, isDone: true, isPlaying: false, seeks: null, clock: 0, ended: null, led: [], last: null, recent: [],
   drawn: 0, before: 0, epoch: 0, frames: 0,
 };
 
@@ -48,10 +48,10 @@ function refuse(why) {
 
 // ---- a run
 
-/** What the module is given: the page draws each event, so it wants all lines, as JSON. */
+/** What the module is given: the page draws each event, so it wants all lines, as JSON. Each line stays at its place, as refusals count them. */
 function asked(text) {
-  const first = text.split(/^run$/m)[0];
-  return `${first.split("\n").filter((line) => !/^(lines|format) /.test(line)).join("\n")}\nlines all\nformat json`;
+  const [first] = text.split(/^run$/m);
+  return `${first.replace(/^(lines|format) .*$/gm, "")}\nlines all\nformat json`;
 }
 
 /** Opens the scenario in place of what is played. */
@@ -60,10 +60,9 @@ async function open(isPlaying = true) {
   const epoch = ++play.epoch;
   at("wrong").textContent = "";
   restart();
-  Object.assign(play, { run: null, queue: [], place: 0, isAsked: false, isDone: false, seeks: null, clock: 0, ended: null, led: [], last: null });
+  Object.assign(play, { run: null, queue: [], place: 0, isAsked: false, isDone: false, seeks: null, clock: 0, ended: null, led: [], last: null, recent: [] });
   picture.choose(null);
-  at("told").replaceChildren();
-  at("named").textContent = "";
+  for (const id of ["said", "told", "named"]) at(id).replaceChildren();
   const answer = await play.engine.ask("open", asked(at("text").value), true);
   if (epoch !== play.epoch) return;
   if (answer.status !== STATUS.DONE) return broken(answer);
@@ -118,11 +117,10 @@ function next() {
   play.last = { event, led: play.led[event.member] };
   const name = event.kind === undefined ? event.event : `${event.event} ${event.kind}`;
   if (Object.hasOwn(LED, name)) play.led[event.member] = name;
-  recent.push(play.last);
-  if (recent.length > TOLD) recent.shift();
+  play.recent.push(play.last);
+  if (play.recent.length > TOLD) play.recent.shift();
   return event;
 }
-const recent = [];
 
 const isOver = () => play.isDone && play.place >= play.queue.length;
 
@@ -160,9 +158,10 @@ function stopSeeking() {
   play.drawn = -Infinity;
 }
 
-/** Looks for the next event of a kind. */
-function seek(seeks) {
-  if (play.run) play.seeks = seeks;
+/** Looks for the next event of a kind, in a run that it begins where there is none. */
+async function seek(seeks) {
+  if (!play.run) await open(false);
+  play.seeks = seeks;
 }
 
 const IS = {
@@ -228,7 +227,7 @@ function say() {
   bold.textContent = what;
   at("said").dataset.at = play.last.event.at;
   at("said").replaceChildren(bold, why);
-  at("told").replaceChildren(...recent.slice(0, -1).reverse().slice(0, 12).map(({ event, led }) => {
+  at("told").replaceChildren(...play.recent.slice(0, -1).reverse().map(({ event, led }) => {
     const line = document.createElement("li");
     line.textContent = `${event.at} ms: ${told(event, play.run, led)[0]}`;
     return line;
@@ -394,14 +393,18 @@ async function link() {
   }
 }
 
-function fromLink() {
-  if (location.hash.length < 2) return false;
+/** The text that the address holds, or nothing. */
+function linked() {
   try {
-    fromText(decodeURIComponent(location.hash.slice(1)), "From a link.");
+    return decodeURIComponent(location.hash.slice(1));
   } catch {
-    return false;
+    return "";
   }
-  return true;
+}
+
+function fromLink() {
+  if (linked()) fromText(linked(), "From a link.");
+  return linked() !== "";
 }
 
 // ---- reports and records of somebody's own
@@ -453,7 +456,7 @@ function wire() {
   at("all").addEventListener("click", () => picture.moved());
   document.body.ondragover = (drag) => drag.preventDefault();
   document.body.ondrop = (drop) => { drop.preventDefault(); if (drop.dataTransfer.files[0]) answer(drop.dataTransfer.files[0]); };
-  window.onhashchange = () => { if (fromLink()) open(); };
+  window.onhashchange = () => { if (linked() !== at("text").value && fromLink()) open(); }; // a link that was copied changes nothing
   document.addEventListener("keydown", press);
 }
 
@@ -478,7 +481,7 @@ function press(key) {
     "+": () => { play.isZoomed = true; picture.zoom(0.6); }, "-": () => { play.isZoomed = true; picture.zoom(1 / 0.6); }, "0": () => at("all").click(),
     "[": () => { away(); picture.look(left - by, right - by); }, "]": () => { away(); picture.look(left + by, right + by); },
   }[key.key];
-  if (!does || (!play.run && key.key !== " " && key.key !== "ArrowRight")) return;
+  if (!does || (!play.run && /^[-+0[\]]$/.test(key.key))) return;
   if (!(key.key === " " && key.target.tagName === "BUTTON")) key.preventDefault();
   does();
 }

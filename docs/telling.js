@@ -30,7 +30,7 @@ function told(event, { world, ways }, led) {
     case "found": return [`${who} finds in its record: ${kind}, view ${view}${payload === undefined ? "" : `, payload ${payload}`}.`, "An opening goes through the record from its beginning, and reports all that stands there once more."];
     case "crashed": if (event.in) return [`${who} crashes while its record is rewritten; ${event.bytes} bytes are left on its two disks.`, "The record from before stays whole on the one, until the new one is whole on the other. The next opening finds this one or that."];
       return [`${who} crashes inside a call of its disk; ${event.bytes} bytes are left there.`, "Of the write some bytes stand, of what wasn't synced a part. Nothing that rests on the lost part was handed out."];
-    case "down": return [`${who} is killed, and will be opened again at ${(event.until / 1000).toFixed(2)} s.`, "What it wrote stays on its disk. Packets that come to it by then are lost, and nobody sends them again."];
+    case "down": return [`${who} is killed, and ${event.until < MOST_NUMBER ? `will be opened again at ${(event.until / 1000).toFixed(2)} s` : "stays so"}.`, "What it wrote stays on its disk. Packets that come to it by then are lost, and nobody sends them again."];
     case "away": return [`${who} isn't there yet, and joins at ${(event.until / 1000).toFixed(2)} s.`, "What is sent to it by then is lost, and nobody sends it again."];
     case "joined": return view > 0
       ? [`${who} joins, and starts from payload ${payload ?? "?"} of view ${view}, which is final.`, "Its host was given that finalization by a member that runs, and needn't believe it: a finalization proves itself. Of what lies below the member knows nothing."]
