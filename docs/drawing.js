@@ -360,7 +360,7 @@ function drawing() {
 
   function drawMark(mark, bins, columns, grain) {
     const stamp = stampOf(mark), from = Math.round(label());
-    brush.fillStyle = mark.colour;
+    brush.fillStyle = colourOf(mark);
     for (let bin = 0; bin < bins.length; bin++) {
       if (!bins[bin]) continue;
       const member = Math.floor(bin / columns), begun = bin, y = Math.round(yOf(member, mark.row));
