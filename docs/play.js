@@ -366,7 +366,7 @@ function fromText(text, about = "") {
 /** The scenarios to begin with: those that tell something, and those that a tool made. */
 function fillPresets() {
   const presets = scenariosOf(PRESETS), isMade = ({ told: comment }) => /^scenario/.test(comment);
-  const groups = [["Told", (each) => !isMade(each)], ["Made by chance", isMade]].map(([name, holds]) => {
+  const groups = [["To begin with", (each) => !isMade(each)], ["Made by chance", isMade]].map(([name, holds]) => {
     const group = document.createElement("optgroup");
     group.label = name;
     group.append(...presets.filter(holds).map((each) => new Option(isMade(each) ? sentenceOf(scenarioOf(each.text) ?? plainScenario()) : each.told, presets.indexOf(each))));
