@@ -188,7 +188,7 @@ fn is_rewritten_again(committee: &Committee, member: usize) -> bool {
 #[test]
 fn a_record_is_rewritten_by_its_node_and_no_new_life_begins() {
     let mut committee = Committee::new(4, |settings| {
-        settings.limits.record_bytes = 4_096;
+        settings.limits.record_bytes = 1_024;
         settings.node.rewrite_views = 8;
     });
     committee.start_all();
