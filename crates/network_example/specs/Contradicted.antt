@@ -70,7 +70,7 @@ module _ {S D C : Type 0} where
     silence = None;
     forward = policy.Disabled;
     tracks = false;
-    repair = record { again = again.Once; window = None };
+    repair = record { again = again.Once; window = None; answers = None };
   }
 
   -- the proposal of the round

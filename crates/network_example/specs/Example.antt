@@ -66,7 +66,7 @@ module _ {S D C : Type 0} where
     silence = None;
     forward = policy.Disabled;
     tracks = false;
-    repair = record { again = again.Once; window = None };
+    repair = record { again = again.Once; window = None; answers = None };
   }
 
 module _ {S D P G C : Type 0} where

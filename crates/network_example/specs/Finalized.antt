@@ -70,7 +70,7 @@ module _ {S D C : Type 0} where
     silence = None;
     forward = policy.Disabled;
     tracks = false;
-    repair = record { again = again.Once; window = None };
+    repair = record { again = again.Once; window = None; answers = None };
   }
 
 module _ {S D P G C : Type 0} (g : Ghosts S D P G C) (x : Lone S D G C) where

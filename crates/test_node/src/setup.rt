@@ -116,7 +116,11 @@ fn repair(words: &mut Words<'_>) -> Result<RepairPolicy, Trouble> {
     };
     let window = words.optional()?;
     words.end()?;
-    Ok(RepairPolicy { again, window })
+    Ok(RepairPolicy {
+        again,
+        window,
+        answers: None,
+    })
 }
 
 impl Setup {
