@@ -19,8 +19,8 @@ from script_rows import TOP, Script, digits, quoted
 PROGRAM = {
     "epoch": "0", "genesis": f'"{"00" * 32}"', "base": '"simplex"', "term-length": "4", "stall-timeout": "10000", "optimistic-views": "2",
     "leader-timeout": "1000", "certification-timeout": "2000", "retry-timeout": "5000", "retention": "10", "skips": "true",
-    "skip-timeout": "8000", "forwarding": '"disabled"', "repair": '"with-nullify"', "repair-window": "1024", "historical-votes": "true",
-    "rewrite-views": "1000",
+    "skip-timeout": "8000", "forwarding": '"disabled"', "repair": '"with-nullify"', "repair-window": "1024", "answers-every": "1000",
+    "historical-votes": "true", "rewrite-views": "1000",
 }
 LEFT = "left as it is, "
 CUTS = "; --cut cuts there, and may take votes that were sent"
@@ -55,7 +55,8 @@ def setup_of(given):
         number["optimistic-views"], number["stall-timeout"] or None, number["retention"], number["leader-timeout"],
         number["certification-timeout"], number["retry-timeout"], number["skip-timeout"] if of["skips"] == "true" else None,
         number.get("skip-budget"), text["forwarding"], of["historical-votes"] == "true", True, text["repair"] == "with-nullify",
-        number["repair-window"] or None, genesis=bytes.fromhex(text["genesis"]), order=order_of(number["members"], seed),
+        number["repair-window"] or None, number["answers-every"] or None, genesis=bytes.fromhex(text["genesis"]),
+        order=order_of(number["members"], seed),
     )
 
 

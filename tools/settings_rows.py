@@ -12,7 +12,7 @@ DEFAULTS = {
     "epoch": 0, "genesis": ZEROS, "base": "simplex", "members": None, "term-length": 4, "stall-timeout": 10_000, "optimistic-views": 2,
     "seed": None, "member": None, "record": None, "leader-timeout": 1000, "certification-timeout": 2000, "retry-timeout": 5000,
     "retention": 10, "skips": True, "skip-timeout": 8000, "skip-budget": None, "forwarding": "disabled", "repair": "with-nullify",
-    "repair-window": 1024, "historical-votes": True, "rewrite-views": 1000,
+    "repair-window": 1024, "answers-every": 1000, "historical-votes": True, "rewrite-views": 1000,
 }
 TITLES = {
     "epoch": "# alike at all members, and through all lives of a record\n", "member": "\n# this member\n",

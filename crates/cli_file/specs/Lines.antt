@@ -93,8 +93,9 @@ conduct_lines c =
     ++ (words_line key.Forwarding (forward_word c.forward)
     ++ (words_line key.Repair (again_word c.repair)
     ++ (number_line key.RepairWindow c.repair_window
+    ++ (number_line key.AnswersEvery c.answers_every
     ++ (truth_line key.HistoricalVotes c.track_historical_votes
-    ++ number_line key.RewriteViews c.rewrite_views))))))))
+    ++ number_line key.RewriteViews c.rewrite_views)))))))))
 
 -- the path of the record, if it is named
 unfoldable pub record_line : MemberFile → List ℕ

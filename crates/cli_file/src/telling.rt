@@ -6,7 +6,7 @@ ghost use Rattle.std.specs.Option.{option_map_or};
 ghost use Rattle.cli_settings.specs.Building.{seed_of};
 ghost use Rattle.cli_file.specs.Lines.{alike_lines, alike_title, budget_line, committee_lines, conduct_lines, differing_lines, differing_title, digits_line, is_control, number_line, own_lines, own_title, quoted_byte, record_line, settings_lines, skip_lines, truth_line, truth_word, turns_lines, words_line};
 ghost use Rattle.cli_toml.specs.Saying.{again_word, forward_word};
-ghost use Rattle.cli_toml.specs.declared.key.Key.TheVariants.{HistoricalVotes, Repair, RepairWindow, RewriteViews, Seed};
+ghost use Rattle.cli_toml.specs.declared.key.Key.TheVariants.{AnswersEvery, HistoricalVotes, Repair, RepairWindow, RewriteViews, Seed};
 
 use cli_settings::{Committee, Conduct, Turns};
 use cli_toml::{Key, MemberFile};
@@ -224,15 +224,16 @@ fn push_conduct(alloc: Global, text: &mut Vec<u8>, conduct: &Conduct) -> Result<
     push_kept(alloc, text, conduct)
 }
 
-/// Ends the text with how others are asked, which votes are kept, and how often the record is rewritten.
+/// Ends the text with how others are asked and answered, which votes are kept, and how often the record is rewritten.
 fn push_kept(alloc: Global, text: &mut Vec<u8>, conduct: &Conduct) -> Result<(), AllocError>
     ensures { OnOk result (text.new.items ≡ text.old.items ++ (words_line Repair (again_word conduct.now.repair)
-        ++ (number_line RepairWindow conduct.now.repair_window ++ (truth_line HistoricalVotes conduct.now.track_historical_votes
-        ++ number_line RewriteViews conduct.now.rewrite_views)))) }
+        ++ (number_line RepairWindow conduct.now.repair_window ++ (number_line AnswersEvery conduct.now.answers_every
+        ++ (truth_line HistoricalVotes conduct.now.track_historical_votes ++ number_line RewriteViews conduct.now.rewrite_views))))) }
 {
     let repair = word_of_repair(conduct.repair);
     push_words(alloc, text, Key::Repair, repair.as_bytes())?;
     push_number(alloc, text, Key::RepairWindow, conduct.repair_window)?;
+    push_number(alloc, text, Key::AnswersEvery, conduct.answers_every)?;
     let votes = conduct.track_historical_votes;
     push_truth(alloc, text, Key::HistoricalVotes, votes)?;
     push_number(alloc, text, Key::RewriteViews, conduct.rewrite_views)

@@ -10,10 +10,10 @@ use Rattle.cli_settings.specs.declared.setting.Committee.{Committee}
 use Rattle.cli_settings.specs.declared.setting.Settings.{Settings}
 use Rattle.cli_settings.specs.declared.setting.Turns.{Turns}
 
--- for how many views others are asked at once, where that is bounded: with 0 it isn't
-abbrev pub window_of : ℕ → Option ℕ
-window_of zero = None
-window_of (suc more) = Some (suc more)
+-- what the number of a setting states, as for how many views others are asked at once: nothing by 0
+abbrev pub stated : ℕ → Option ℕ
+stated zero = None
+stated (suc more) = Some (suc more)
 
 -- what a node is opened with
 abbrev pub config_of : Settings → Config (Floor plain.Committee (List ℕ) ℕ (List ℕ) (List (Attestation (List ℕ))))
@@ -26,7 +26,7 @@ config_of s = record {
   view_retention = s.conduct.view_retention;
   skip = s.conduct.skip;
   forward = s.conduct.forward;
-  repair = record { again = s.conduct.repair; window = window_of s.conduct.repair_window };
+  repair = record { again = s.conduct.repair; window = stated s.conduct.repair_window; answers = stated s.conduct.answers_every };
   track_historical_votes = s.conduct.track_historical_votes;
 }
 

@@ -2,12 +2,12 @@
 
 ghost use Rattle.std.specs.Prelude.{◌≡◌, ◌<◌, Some, IfOk};
 ghost use Rattle.std.specs.Option.{ForSome};
-ghost use Rattle.cli_settings.specs.Building.{config_of, seed_of, timing_of, window_of};
+ghost use Rattle.cli_settings.specs.Building.{config_of, seed_of, stated, timing_of};
 ghost use Rattle.cli_settings.specs.Checking.{HasMembers, HasTurns, IsGood};
 ghost use Rattle.types_terms.specs.Shuffle.{IsOrderOf};
 ghost use Rattle.types_terms.specs.Terms.{rotating};
 
-use crate::setting::{Committee, Conduct, Settings, Turns};
+use crate::setting::{Committee, Settings, Turns};
 use simplex_types::PlainScheme;
 use std::alloc::{AllocError, Global};
 use std::rc::Rc;
@@ -76,17 +76,11 @@ impl Committee {
     }
 }
 
-impl Conduct {
-    /// For how many views to leave behind others are asked at once, where that is bounded.
-    fn window(&self) -> Option<u64>
-        ensures { result ≡ window_of self.now.repair_window }
-    {
-        if self.repair_window == 0 {
-            None
-        } else {
-            Some(self.repair_window)
-        }
-    }
+/// What a setting states: nothing by 0.
+fn stated(number: u64) -> Option<u64>
+    ensures { result ≡ stated number }
+{
+    if number == 0 { None } else { Some(number) }
 }
 
 impl Settings {
@@ -106,7 +100,8 @@ impl Settings {
             forward: conduct.forward,
             repair: RepairPolicy {
                 again: conduct.repair,
-                window: conduct.window(),
+                window: stated(conduct.repair_window),
+                answers: stated(conduct.answers_every),
             },
             track_historical_votes: conduct.track_historical_votes,
         }

@@ -55,6 +55,8 @@ pub struct Conduct {
     pub repair: Again,
     /// For how many views to leave behind other members are asked at once. With 0 for all.
     pub repair_window: u64,
+    /// After how long a certificate goes again to a member that asks for it. With 0 at once.
+    pub answers_every: u64,
     /// Whether each vote is kept until its view is dropped, also behind a certificate and of views that were skipped.
     pub track_historical_votes: bool,
     /// How many views are finalized between two rewrites of a record on two disks. With 0 at the end of the input alone.
@@ -102,19 +104,21 @@ impl Conduct {
             forward: ForwardPolicy::Disabled,
             repair: Again::Once,
             repair_window: 0,
+            answers_every: 0,
             track_historical_votes: true,
             rewrite_views: 0,
         }
     }
 
-    /// That of each other program, where nothing else is set: the same, but that asks go again, for so many views at once, and that
-    /// the record is rewritten while the member runs.
+    /// That of each other program, where nothing else is set: the same, but that asks go again, for so many views at once, that one
+    /// certificate goes to one member once in a second, and that the record is rewritten while the member runs.
     pub const fn usual() -> Conduct
         ensures { result ≡ usual_conduct }
     {
         Conduct {
             repair: Again::WithNullify,
             repair_window: 1_024,
+            answers_every: 1_000,
             rewrite_views: 1_000,
             ..Conduct::of_program()
         }

@@ -25,6 +25,7 @@ key_name key.SkipBudget = codes "skip-budget"
 key_name key.Forwarding = codes "forwarding"
 key_name key.Repair = codes "repair"
 key_name key.RepairWindow = codes "repair-window"
+key_name key.AnswersEvery = codes "answers-every"
 key_name key.HistoricalVotes = codes "historical-votes"
 key_name key.RewriteViews = codes "rewrite-views"
 

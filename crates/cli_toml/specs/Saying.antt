@@ -74,6 +74,7 @@ module _ (t : Members) where
     pub forward : Gives (λ policy. string (forward_word policy)) forward.Disabled (under key.Forwarding t) c.forward
     pub repair : Gives (λ policy. string (again_word policy)) usual_conduct.repair (under key.Repair t) c.repair
     pub repair_window : Gives whole usual_conduct.repair_window (under key.RepairWindow t) c.repair_window
+    pub answers_every : Gives whole usual_conduct.answers_every (under key.AnswersEvery t) c.answers_every
     pub track_historical_votes : Gives boolean true (under key.HistoricalVotes t) c.track_historical_votes
     pub rewrite_views : Gives whole usual_conduct.rewrite_views (under key.RewriteViews t) c.rewrite_views
 

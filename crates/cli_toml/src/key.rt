@@ -47,6 +47,8 @@ pub enum Key {
     Repair,
     /// For how many views to leave behind others are asked at once.
     RepairWindow,
+    /// After how long a certificate goes again to a member that asks for it.
+    AnswersEvery,
     /// Whether each vote is kept until its view is dropped.
     HistoricalVotes,
     /// How many views are finalized between two rewrites of the record.
@@ -79,6 +81,7 @@ impl Key {
             Key::Forwarding => "forwarding",
             Key::Repair => "repair",
             Key::RepairWindow => "repair-window",
+            Key::AnswersEvery => "answers-every",
             Key::HistoricalVotes => "historical-votes",
             Key::RewriteViews => "rewrite-views",
         }
@@ -110,6 +113,7 @@ impl Key {
             "forwarding" => Some(Key::Forwarding),
             "repair" => Some(Key::Repair),
             "repair-window" => Some(Key::RepairWindow),
+            "answers-every" => Some(Key::AnswersEvery),
             "historical-votes" => Some(Key::HistoricalVotes),
             "rewrite-views" => Some(Key::RewriteViews),
             _ => None,

@@ -34,7 +34,8 @@ pub struct MemberFile {
 }
 
 /// What the text says, in TOML. A key that isn't there has its default, which is the setting of `simplex node`, but that asks go
-/// again and the record is rewritten meanwhile; the number of members and the member's index have none.
+/// again, one certificate goes to one member once in a second, and the record is rewritten meanwhile; the number of members and
+/// the member's index have none.
 ///
 /// # Errors
 ///
@@ -197,6 +198,7 @@ fn conduct_in(table: &Table) -> Result<Conduct, ValueFault>
         forward: forward_in(table)?,
         repair: repair_in(table)?,
         repair_window: number_or(table, Key::RepairWindow, usual.repair_window)?,
+        answers_every: number_or(table, Key::AnswersEvery, usual.answers_every)?,
         track_historical_votes: truth_or(
             table,
             Key::HistoricalVotes,
