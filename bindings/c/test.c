@@ -103,6 +103,7 @@ static void test_settings(void) {
 
     WANT(voumlis_settings_check(&settings, &found), VOUMLIS_DONE);
     want(__LINE__, found.named, 0);
+    want(__LINE__, (uint32_t)settings.answers_every, 1000);
 #define WANT_FAULT(change, fault) \
     do { \
         settings = voumlis_settings_of(4, 0); \
@@ -143,10 +144,12 @@ static void test_settings(void) {
         WANT(voumlis_settings_check(&settings, &found), status); \
     } while (0)
     WANT_NONE(settings.version = 1, VOUMLIS_VERSION);
-    WANT_NONE(settings.version = 3, VOUMLIS_VERSION);
+    WANT_NONE(settings.version = 2, VOUMLIS_VERSION);
+    WANT_NONE(settings.version = 4, VOUMLIS_VERSION);
     WANT_NONE(settings.version = 0, VOUMLIS_VERSION);
     WANT_NONE(settings.size = sizeof settings - 1, VOUMLIS_VERSION);
     WANT_NONE(settings.size = 176, VOUMLIS_VERSION);
+    WANT_NONE(settings.size = 192, VOUMLIS_VERSION);
     WANT_NONE(settings.size = sizeof settings + 8, VOUMLIS_VERSION);
     WANT_NONE(settings.skips = 3, VOUMLIS_ARGUMENT);
     WANT_NONE(settings.forwarding = 3, VOUMLIS_ARGUMENT);
@@ -154,6 +157,8 @@ static void test_settings(void) {
     WANT_NONE(settings.repair_window = 0, VOUMLIS_DONE);
     WANT_NONE(settings.repair_window = UINT64_MAX, VOUMLIS_DONE);
     WANT_NONE(settings.unused = 7, VOUMLIS_DONE);
+    WANT_NONE(settings.answers_every = 0, VOUMLIS_DONE);
+    WANT_NONE(settings.answers_every = UINT64_MAX, VOUMLIS_DONE);
     WANT_NONE(settings.historical_votes = 2, VOUMLIS_ARGUMENT);
     WANT_NONE(settings.shuffled = 2, VOUMLIS_ARGUMENT);
     WANT_NONE(settings.base = NULL, VOUMLIS_ARGUMENT);
@@ -471,7 +476,7 @@ static void test_light(void) {
     WANT(voumlis_certifies(&settings, bytes, length, &certified, &found), VOUMLIS_NOT_CERTIFYING);
     settings.member = 4;
     WANT(voumlis_certifies(&settings, bytes, length, &certified, &found), VOUMLIS_SETTINGS);
-    settings.version = 3;
+    settings.version = 2;
     WANT(voumlis_certifies(&settings, bytes, length, &certified, &found), VOUMLIS_VERSION);
     WANT(voumlis_certifies(&settings, bytes, length, NULL, &found), VOUMLIS_ARGUMENT);
     WANT(voumlis_certifies(&settings, bytes, length, (struct voumlis_certified *)bytes, &found), VOUMLIS_ARGUMENT);

@@ -157,10 +157,11 @@ struct voumlis_settings {
     uint64_t repair_window; /* for how many views to leave behind others are asked at once; 0 for all */
     uint32_t repair;        /* enum voumlis_repair */
     uint32_t unused;        /* read by nobody */
+    uint64_t answers_every; /* after how long a certificate goes again to a member that asks for it; 0 for at once */
 };
-#define VOUMLIS_SETTINGS_VERSION 2
+#define VOUMLIS_SETTINGS_VERSION 3
 /* The library reads this form: else this isn't compiled. */
-typedef char voumlis_settings_form[sizeof(struct voumlis_settings) == 192 ? 1 : -1];
+typedef char voumlis_settings_form[sizeof(struct voumlis_settings) == 200 ? 1 : -1];
 
 /* The views of a node. */
 struct voumlis_views {
@@ -322,7 +323,8 @@ static inline uint32_t voumlis_node_open_pair(uint16_t members, uint16_t member,
 }
 
 /* The settings of the program `simplex node`, as `member` of `members` is set up by it, but that asks go again with each vote
- * that is sent again, for 1,024 views at once: so a committee that loses packets gets on. */
+ * that is sent again, for 1,024 views at once, so that a committee that loses packets gets on; and that one certificate goes
+ * to one member that asks once in a second. */
 static inline struct voumlis_settings voumlis_settings_of(uint32_t members, uint32_t member) {
     struct voumlis_settings settings;
     memset(&settings, 0, sizeof settings);
@@ -342,6 +344,7 @@ static inline struct voumlis_settings voumlis_settings_of(uint32_t members, uint
     settings.skip_timeout = 8000;
     settings.repair = VOUMLIS_REPAIR_WITH_NULLIFY;
     settings.repair_window = 1024;
+    settings.answers_every = 1000;
     settings.base = (const uint8_t *)"simplex";
     settings.base_length = 7;
     return settings;

@@ -5,7 +5,7 @@ use crate::wire::Payload;
 use std::fmt;
 
 /// Which form of the numbers these bindings hand in, and how many bytes it has.
-const VERSION: u32 = 2;
+const VERSION: u32 = 3;
 const SIZE: usize = size_of::<Numbers>();
 
 /// How a member is set up, but for its base and its seed, as the library reads it: where C has pointers to these it reads nothing.
@@ -35,6 +35,7 @@ pub(crate) struct Numbers {
     repair_window: u64,
     repair: u32,
     unused: u32,
+    answers_every: u64,
 }
 
 unsafe extern "C" {
@@ -176,7 +177,7 @@ impl SettingsFault {
 }
 
 /// How a member is set up, which [`Settings::new`] begins with what the program `simplex node` has, but that asks go again, for 1,024
-/// views at once. Durations are milliseconds.
+/// views at once, and that one certificate goes to one member once in a second. Durations are milliseconds.
 ///
 /// What must be alike at all members of a committee, and through all lives of a record, is set by [`Settings::epoch`],
 /// [`Settings::genesis`], [`Settings::base`], [`Settings::terms`], [`Settings::rotating`] and [`Settings::shuffled`]; the other calls set
@@ -200,18 +201,22 @@ pub struct Settings {
     forwarding: Forwarding,
     repair: Repair,
     repair_window: u64,
+    answers_every: u64,
     historical_votes: bool,
 }
 
 impl Settings {
-    /// Those of `member` of `members` by the program `simplex node`, but that asks go again.
+    /// Those of `member` of `members` by the program `simplex node`, but that asks go again, and that who asks again is answered again
+    /// a second later.
     pub fn new(member: u32, members: u32) -> Settings {
         Settings::of_program(member, members)
             .repair(Repair::WithNullify)
             .repair_window(1_024)
+            .answers_every(1_000)
     }
 
-    /// Those of `member` of `members` by the program `simplex node`: each ask goes once, and all at once.
+    /// Those of `member` of `members` by the program `simplex node`: each ask goes once, and all at once, and each of others is
+    /// answered.
     pub fn of_program(member: u32, members: u32) -> Settings {
         Settings {
             members,
@@ -234,6 +239,7 @@ impl Settings {
             forwarding: Forwarding::Disabled,
             repair: Repair::Once,
             repair_window: 0,
+            answers_every: 0,
             historical_votes: true,
         }
     }
@@ -330,6 +336,13 @@ impl Settings {
         self
     }
 
+    /// After how long a certificate goes again to a member that asks for it; 0 for at once. It is told by the moments of
+    /// [`Event::Moment`](crate::wire::Event::Moment): a node that is told none sends it once.
+    pub fn answers_every(mut self, time: u64) -> Settings {
+        self.answers_every = time;
+        self
+    }
+
     /// Whether votes behind a certificate, and of views that were skipped, are kept.
     pub fn historical_votes(mut self, kept: bool) -> Settings {
         self.historical_votes = kept;
@@ -405,6 +418,7 @@ impl Settings {
             repair_window: self.repair_window,
             repair: self.repair as u32,
             unused: 0,
+            answers_every: self.answers_every,
         };
         (numbers, &self.base, self.seed.as_deref().unwrap_or(&[]))
     }

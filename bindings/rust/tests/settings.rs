@@ -75,6 +75,7 @@ fn each_fault_is_told_by_its_name() {
         .forwarding(Forwarding::SilentLeader)
         .repair(Repair::Once)
         .repair_window(u64::MAX)
+        .answers_every(u64::MAX)
         .historical_votes(false);
     assert_eq!(edges.check(), Ok(()));
     assert_eq!(good().terms(4, 1, 1_000).check(), Ok(()));
@@ -212,10 +213,10 @@ fn votes_are_sent_again_by_their_timeout() {
 }
 
 /// A nullification of view 4 of four members, of whom three gave up each view before it and had no proposal.
-fn nullification_ahead() -> Vec<u8> {
+fn nullification_ahead(name: &str) -> Vec<u8> {
     let open = |member: u32| {
         let settings = Settings::new(member, 4).rotating();
-        Node::open_with(&place(&format!("ahead-{member}")), &settings).unwrap()
+        Node::open_with(&place(&format!("{name}-{member}")), &settings).unwrap()
     };
     let mut others: Vec<(u32, Node)> = (1..4).map(|member| (member, open(member).0)).collect();
     let sent = |reply: Reply, on: Channel| {
@@ -258,7 +259,7 @@ fn packet(sender: u32, channel: Channel, bytes: &[u8]) -> Event<'_> {
 
 #[test]
 fn what_nothing_settled_is_asked_for_again_where_that_is_set() {
-    let ahead = nullification_ahead();
+    let ahead = nullification_ahead("ahead");
     // How many views are asked for behind it, and again with a vote that is sent again.
     let asked = |name: &str, settings: Settings| {
         let (mut node, _) = Node::open_with(&place(name), &settings.rotating()).unwrap();
@@ -285,6 +286,35 @@ fn what_nothing_settled_is_asked_for_again_where_that_is_set() {
     assert_eq!(asked("asks-once-too", once), (3, 0));
     let two = Settings::new(0, 4).repair_window(2);
     assert_eq!(asked("asks-for-two", two), (2, 2));
+}
+
+#[test]
+fn a_certificate_goes_to_who_asks_for_it_as_often_as_that_is_set() {
+    let ahead = nullification_ahead("answered");
+    // Whether it goes to member 2 each time that it asks: twice at once, a millisecond before a second is over, and when it is.
+    let sent = |name: &str, settings: Settings| {
+        let (mut node, _) = Node::open_with(&place(name), &settings.rotating()).unwrap();
+        let mut reply = |event: &Event| node.step(event).unwrap();
+        reply(&packet(1, Channel::Certificates, &ahead));
+        [0, 0, 999, 1_000].map(|moment| {
+            reply(&Event::Moment(moment));
+            let actions = reply(&packet(2, Channel::Fetches, &[4])).actions;
+            let answer = Action::Send {
+                to: Some(2),
+                channel: Channel::Certificates,
+                bytes: ahead.clone(),
+            };
+            actions.contains(&answer)
+        })
+    };
+    let always = [true; 4];
+    let once_a_second = [true, false, false, true];
+    assert_eq!(sent("answers", Settings::new(0, 4)), once_a_second);
+    assert_eq!(sent("answers-always", Settings::of_program(0, 4)), always);
+    let at_once = Settings::new(0, 4).answers_every(0);
+    assert_eq!(sent("answers-at-once", at_once), always);
+    let sooner = Settings::new(0, 4).answers_every(999);
+    assert_eq!(sent("answers-sooner", sooner), [true, false, true, false]);
 }
 
 #[test]

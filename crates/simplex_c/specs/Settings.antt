@@ -39,8 +39,8 @@ again_number again.WithNullify = 1
 module _ (n : SettingsNumbers) where
   -- the caller's struct is the one that this library reads
   pub record HasForm : Type 0 where
-    pub size : n.size ≡ 192
-    pub version : n.version ≡ 2
+    pub size : n.size ≡ 200
+    pub version : n.version ≡ 3
 
   -- the policy of skips that the numbers say
   abbrev pub SaysSkip : SkipPolicy → Type 0
@@ -58,6 +58,7 @@ module _ (n : SettingsNumbers) where
     pub forward : n.forwarding ≡ forward_number c.forward
     pub repair : n.repair ≡ again_number c.repair
     pub repair_window : c.repair_window ≡ n.repair_window
+    pub answers_every : c.answers_every ≡ n.answers_every
     pub track_historical_votes : n.historical_votes ≡ truth_number c.track_historical_votes
     pub rewrite_views : c.rewrite_views ≡ 0
 

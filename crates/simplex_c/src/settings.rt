@@ -18,10 +18,10 @@ use types_core::{Epoch, Sha256Digest, ViewDelta};
 use voter_rules::config::{Again, ForwardPolicy, SkipBudget, SkipPolicy};
 
 /// How many bytes the caller's struct has that this library reads.
-const SIZE: usize = 192;
+const SIZE: usize = 200;
 
 /// Which form it has.
-const VERSION: u32 = 2;
+const VERSION: u32 = 3;
 
 /// How a member is set up, but for its base and its seed, which come beside it: of where these lie nothing is read here. Any numbers
 /// may stand here. A later form is longer, has a higher version, and begins as this one.
@@ -77,6 +77,8 @@ pub struct SettingsNumbers {
     pub repair: u32,
     /// Nothing.
     pub unused: u32,
+    /// After how many milliseconds a certificate goes again to a member that asks for it; 0 for at once.
+    pub answers_every: u64,
 }
 
 /// Why settings are none that a node can be opened with.
@@ -171,6 +173,7 @@ fn conduct_of(numbers: &SettingsNumbers) -> Option<Conduct>
         forward,
         repair,
         repair_window: numbers.repair_window,
+        answers_every: numbers.answers_every,
         track_historical_votes,
         rewrite_views: 0,
     })
