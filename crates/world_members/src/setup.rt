@@ -47,7 +47,7 @@ pub fn config_of<F>(times: &Times, floor: F) -> Config<F>
     }
 }
 
-/// How each asks for what it lacks.
+/// How each asks for what it lacks, and answers others.
 fn repair_of(times: &Times) -> RepairPolicy {
     let again = if times.asks_again {
         Again::WithNullify
@@ -57,6 +57,7 @@ fn repair_of(times: &Times) -> RepairPolicy {
     RepairPolicy {
         again,
         window: times.window,
+        answers: times.answers,
     }
 }
 

@@ -158,6 +158,8 @@ pub struct Times {
     pub asks_again: bool,
     /// For how many views to leave behind others are asked at once, if not for all.
     pub window: Option<u64>,
+    /// After how many milliseconds a certificate goes again to a member that asks for it, if not at once.
+    pub answers: Option<u64>,
 }
 
 /// What is to happen.
@@ -325,12 +327,17 @@ impl Scenario {
             }
             "skip" => self.times.skip = Some(above_zero(words)?),
             "keep" => self.times.retention = above_zero(words)?,
-            "repair" => {
-                self.times.asks_again = asks_again(words)?;
-                self.times.window = window_of(words)?;
-            }
+            "repair" => self.set_repair(words)?,
             _ => return self.set_lives(name, words),
         }
+        Ok(())
+    }
+
+    /// `repair AGAIN WINDOW ANSWERS`, of which the last may be left out.
+    fn set_repair(&mut self, words: &mut Words<'_>) -> Result<(), Refusal> {
+        self.times.asks_again = asks_again(words)?;
+        self.times.window = stated(words)?;
+        self.times.answers = if words.more() { stated(words)? } else { None };
         Ok(())
     }
 
@@ -482,6 +489,7 @@ const TIMES: Times = Times {
     retention: 10,
     asks_again: true,
     window: Some(1_024),
+    answers: None,
 };
 
 /// The word of whether asks go again.
@@ -493,11 +501,11 @@ fn asks_again(words: &mut Words<'_>) -> Result<bool, Refusal> {
     }
 }
 
-/// For how many views others are asked at once: with 0 for all.
-fn window_of(words: &mut Words<'_>) -> Result<Option<u64>, Refusal> {
+/// What the next word states: nothing by 0.
+fn stated(words: &mut Words<'_>) -> Result<Option<u64>, Refusal> {
     match number_of(words)? {
         0 => Ok(None),
-        views => Ok(Some(views)),
+        number => Ok(Some(number)),
     }
 }
 
