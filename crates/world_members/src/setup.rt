@@ -31,7 +31,9 @@ fn length_of(times: &Times) -> u32
 
 /// How each node is set up that starts from this.
 pub fn config_of<F>(times: &Times, floor: F) -> Config<F>
-    ensures { result.floor ≡ floor }
+    ensures floor { result.floor ≡ floor }
+    ensures window { result.repair.window ≡ times.now.window }
+    ensures answers { result.repair.answers ≡ times.now.answers }
 {
     Config {
         epoch: Epoch::zero(),
@@ -48,7 +50,10 @@ pub fn config_of<F>(times: &Times, floor: F) -> Config<F>
 }
 
 /// How each asks for what it lacks, and answers others.
-fn repair_of(times: &Times) -> RepairPolicy {
+fn repair_of(times: &Times) -> RepairPolicy
+    ensures window { result.window ≡ times.now.window }
+    ensures answers { result.answers ≡ times.now.answers }
+{
     let again = if times.asks_again {
         Again::WithNullify
     } else {
