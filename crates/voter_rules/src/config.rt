@@ -155,7 +155,7 @@ pub struct Config<F> {
     pub skip: SkipPolicy,
     /// To whom payloads are forwarded.
     pub forward: ForwardPolicy,
-    /// How the member asks for what it lacks.
+    /// How the member asks for what it lacks, and how often it answers others.
     pub repair: RepairPolicy,
     /// Whether each vote is kept until its view is dropped, also behind a certificate and of views that were skipped.
     pub track_historical_votes: bool,
