@@ -9,6 +9,8 @@ mod laws;
 mod refusal;
 mod repairing;
 mod sent;
+mod served;
+mod serving;
 mod speaks;
 
 pub use action::{Action, Reply};
@@ -37,4 +39,9 @@ pub use repairing::{
     nothing_else_waits_for_asks, unsettled_asks_go_again,
 };
 pub use sent::{none_stays_unsent, sent_votes_were_due};
+pub use served::Served;
+pub use serving::{
+    asks_of_others_change_nothing_else, each_ask_is_answered, served_once_in_a_time,
+    who_asks_later_is_served,
+};
 pub use speaks::Speaks;

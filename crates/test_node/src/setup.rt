@@ -104,7 +104,8 @@ fn hands_off(words: &mut Words<'_>) -> Result<(), Trouble> {
     }
 }
 
-/// `AGAIN WINDOW`, to the line's end. Where nothing is left, asks go once, and all at once.
+/// `AGAIN WINDOW` or `AGAIN WINDOW ANSWERS`, to the line's end. Where nothing is left, asks go once, and all at once, and others are
+/// answered as often as they ask.
 fn repair(words: &mut Words<'_>) -> Result<RepairPolicy, Trouble> {
     if !words.more() {
         return Ok(RepairPolicy::once());
@@ -115,8 +116,17 @@ fn repair(words: &mut Words<'_>) -> Result<RepairPolicy, Trouble> {
         _ => return Err(Trouble::Unreadable),
     };
     let window = words.optional()?;
+    let answers = if words.more() {
+        words.optional()?
+    } else {
+        None
+    };
     words.end()?;
-    Ok(RepairPolicy { again, window })
+    Ok(RepairPolicy {
+        again,
+        window,
+        answers,
+    })
 }
 
 impl Setup {

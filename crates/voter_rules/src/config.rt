@@ -98,34 +98,39 @@ pub enum Again {
     WithNullify,
 }
 
-/// How a member asks for what it lacks. No vote, deadline, block or record depends on it.
+/// How a member asks for what it lacks, and answers those who ask it. No vote, deadline, block or record depends on it.
 #[derive(Clone, Copy, Debug, PartialEq, Eq)]
 pub struct RepairPolicy {
     /// Whether an ask that nothing settled goes again.
     pub again: Again,
     /// How many views to leave behind are asked for at once, the lowest first. Without it all are.
     pub window: Option<u64>,
+    /// For how many milliseconds one and the same certificate isn't sent again to a member that asks. Without it it is, as often as
+    /// it is asked for.
+    pub answers: Option<u64>,
 }
 
 impl RepairPolicy {
-    /// All asks go at once, and each of them once.
+    /// All asks go at once, and each of them once. Each ask of another member is answered.
     pub const fn once() -> Self
         ensures { result ≡ asks_once }
     {
         RepairPolicy {
             again: Again::Once,
             window: None,
+            answers: None,
         }
     }
 
     /// Asks go again with each repeated nullify, and for 1,024 views to leave behind at once: a committee that loses packets
-    /// gets on by it.
+    /// gets on by it. One certificate goes to a member that asks once in a second.
     pub const fn usual() -> Self
         ensures { result ≡ usual_repair }
     {
         RepairPolicy {
             again: Again::WithNullify,
             window: Some(1_024),
+            answers: Some(1_000),
         }
     }
 }
@@ -150,7 +155,7 @@ pub struct Config<F> {
     pub skip: SkipPolicy,
     /// To whom payloads are forwarded.
     pub forward: ForwardPolicy,
-    /// How the member asks for what it lacks.
+    /// How the member asks for what it lacks, and how often it answers others.
     pub repair: RepairPolicy,
     /// Whether each vote is kept until its view is dropped, also behind a certificate and of views that were skipped.
     pub track_historical_votes: bool,
