@@ -51,8 +51,8 @@ module _ {S D P G C : Type 0} (g : Ghosts S D P G C) (f : Formats S D P G C) (s 
   later-served h member view time x bytes stated best there long =
       let last = last_served f s h (record { source = x; to = member }) in
       let may : may_serve f s h member (source s.voter.length (repair_of f h) view) ≡ true =
-          ap (may_serve f s h member) best
-          ∙ (ap (λ (a : Option ℕ). not (is_too_soon a last (latest h))) stated ∙ ap not (passed time last (latest h) long)) in
+      ap (may_serve f s h member) best
+      ∙ (ap (λ (a : Option ℕ). not (is_too_soon a last (latest h))) stated ∙ ap not (passed time last (latest h) long)) in
       ap (λ (b : Bool). if b then map (Serves member) (option_to_list (produced s.voter.length (repair_of f h) view)) else []) may
       ∙ ap (λ (o : Option (List ℕ)). map (Serves member) (option_to_list o)) there
 
@@ -85,7 +85,7 @@ module _ {S D P G C : Type 0} (g : Ghosts S D P G C) (f : Formats S D P G C) (s 
       at-first =
           let goes : goes_to x.to (source s.voter.length (repair_of f before) first) x ≡ true = ap (λ (o : Option Source). goes_to x.to o x) was.best ∙ goes-itself x in
           let soon : is_too_soon s.repair.answers (last_served f s before x) (latest before) ≡ false =
-              ap (λ (a : Option ℕ). is_too_soon a (last_served f s before x) (latest before)) stated ∙ in-time before first was in
+          ap (λ (a : Option ℕ). is_too_soon a (last_served f s before x) (latest before)) stated ∙ in-time before first was in
           (latest before, rw (goes, soon) refl, omega arith)
 
       -- one more ask
@@ -94,9 +94,9 @@ module _ {S D P G C : Type 0} (g : Ghosts S D P G C) (f : Formats S D P G C) (s 
           (λ goes.
           let both = and_parts (goes_to member (source s.voter.length (repair_of f h) view) x) (not (is_too_soon s.repair.answers (last_served f s h x) (latest h))) goes in
           let soon : is_too_soon (Some time) (Some from.0) (latest h) ≡ false =
-              ap (λ (o : Option ℕ). is_too_soon (Some time) o (latest h)) (sym from.1)
-              ∙ (ap (λ (a : Option ℕ). is_too_soon a (last_served f s h x) (latest h)) (sym stated)
-              ∙ not-true (is_too_soon s.repair.answers (last_served f s h x) (latest h)) both.1) in
+          ap (λ (o : Option ℕ). is_too_soon (Some time) o (latest h)) (sym from.1)
+          ∙ (ap (λ (a : Option ℕ). is_too_soon a (last_served f s h x) (latest h)) (sym stated)
+          ∙ not-true (is_too_soon s.repair.answers (last_served f s h x) (latest h)) both.1) in
           let long = has-passed time from.0 (latest h) soon in
           let le = from.2 in
           (latest h, ap (λ (b : Bool). if b then Some (latest h) else last_served f s h x) goes, omega (arith, long, le)))

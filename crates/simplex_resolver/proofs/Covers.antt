@@ -206,8 +206,8 @@ module _ (views : ℕ) (held : Held) (h : List Item) (k : Holds views held h) (v
     pub covering-none : r ≡ [] → (covering views h v ≡ None) × (covering_view views h v ≡ None)
     covering-none e =
         let none = highest-none h (term_start views v) v (λ u from to.
-            let gone : get nat_cmp held.nullifications u ≡ None = range.5 e u (not_gt_from_le _ _ from, not_gt_from_le _ _ to) in
-            sym (kept u from) ∙ ap (option_map (λ (bytes : Vec ℕ Global). bytes.items)) gone) in
+        let gone : get nat_cmp held.nullifications u ≡ None = range.5 e u (not_gt_from_le _ _ from, not_gt_from_le _ _ to) in
+        sym (kept u from) ∙ ap (option_map (λ (bytes : Vec ℕ Global). bytes.items)) gone) in
         (rw (nat_lt-yes (finalized h) v above) none.0, rw (nat_lt-yes (finalized h) v above) none.1)
 
     pub covering-is : (e : ℕ × Vec ℕ Global) (t : List (ℕ × Vec ℕ Global)) → r ≡ t ++ e ∷ [] → (covering views h v ≡ Some e.1.items) × (covering_view views h v ≡ Some e.0)

@@ -40,7 +40,7 @@ returns-then-not-clause-taken g c = λ s h k allowed.
     let is = sym (c.in-Some.ensures.source s.voter.length (repair_of f h) k.repair) in
     let late = c.what_is_served_is_of_late_views.ensures.late c.args.core.now.repair s.voter.length (repair_of f h) k.repair c.args.view c.in-Some.source is in
     let soon : is_too_soon s.repair.answers (last_served f s h served) (latest h) ≡ true = soon_by c.may_serve.result (is_too_soon s.repair.answers (last_served f s h served) (latest h)) (latest h)
-        (c.may_serve.ensures s.repair.answers first (λ x. last_served f s h x) k.serving late ∙ ap (λ (t : ℕ). not (is_too_soon s.repair.answers (last_served f s h served) t)) (c.moment-now.ensures (finalized_of s h) h k.tables)) c.if-not.true in
+    (c.may_serve.ensures s.repair.answers first (λ x. last_served f s h x) k.serving late ∙ ap (λ (t : ℕ). not (is_too_soon s.repair.answers (last_served f s h served) t)) (c.moment-now.ensures (finalized_of s h) h k.tables)) c.if-not.true in
     record {
       keeps = wanted-keeps k c.args.core.now.serving c.args.sender c.args.view allowed (c.silent_points_leave_votes.ensures.quiet s c.args.core.now.acceptance h p (λ u. (refl, λ r. refl)) refl k.votes)
           (c.quiet_points_leave_the_tables.ensures (finalized_of s h) c.args.core.now.tables h p refl k.tables)
@@ -64,7 +64,7 @@ returns-clause-taken g c = on_ok_weaker c.hand_out.result (λ done. λ s h k all
     let late = c.what_is_served_is_of_late_views.ensures.late c.args.core.now.repair s.voter.length (repair_of f h) k.repair c.args.view c.in-Some.source is in
     let now = c.moment-now.ensures (finalized_of s h) h k.tables in
     let may : is_too_soon s.repair.answers (last_served f s h served) (latest h) ≡ false = not-true (is_too_soon s.repair.answers (last_served f s h served) (latest h))
-        (sym (c.may_serve.ensures s.repair.answers first (λ x. last_served f s h x) k.serving late ∙ ap (λ (t : ℕ). not (is_too_soon s.repair.answers (last_served f s h served) t)) now) ∙ may_by c.may_serve.result c.if-not.false) in
+    (sym (c.may_serve.ensures s.repair.answers first (λ x. last_served f s h x) k.serving late ∙ ap (λ (t : ℕ). not (is_too_soon s.repair.answers (last_served f s h served) t)) now) ∙ may_by c.may_serve.result c.if-not.false) in
     let items = c.in-Ok.ensures.items ∙ ap (λ (l : List ℕ). l ++ c.in-Some.answer.now) c.new-bytes.ensures.items in
     record {
       keeps = wanted-keeps k c.serve.new.self c.args.sender c.args.view allowed (c.silent_points_leave_votes.ensures.quiet s c.args.core.now.acceptance h p (λ u. (refl, λ r. refl)) refl k.votes)
