@@ -1,5 +1,5 @@
 -- What a node served to other members, and when that may go again.
-use Rattle.std.specs.Prelude.{◌==◌, ◌&&◌, ◌+◌, nat_lt, not, ℕ, Bool, true, false, [], ◌∷◌, Option, Some, None, if◌then◌else◌}
+use Rattle.std.specs.Prelude.{◌==◌, ◌&&◌, ◌+◌, nat_lt, not, ℕ, Bool, true, false, [], ◌∷◌, Option, Some, None, option_map, unwrap_or, if◌then◌else◌}
 use Rattle.simplex_resolver.specs.declared.source.Source.{Source}
 use Rattle.simplex_resolver.specs.Answers.{is_same_source, source}
 use Rattle.simplex_member.specs.declared.served.Served.{Served}
@@ -30,5 +30,5 @@ module _ {S D P G C : Type 0} (f : Formats S D P G C) (s : Setup S D C) where
 
   -- a member may be served this certificate now, where there is one
   abbrev pub may_serve : History S D P G C → ℕ → Option Source → Bool
-  may_serve h member (Some found) = not (is_too_soon s.repair.answers (last_served h (record { source = found; to = member })) (latest h))
-  may_serve h member None = true
+  may_serve h member best = unwrap_or (option_map
+      (λ found. not (is_too_soon s.repair.answers (last_served h (record { source = found; to = member })) (latest h))) best) true
