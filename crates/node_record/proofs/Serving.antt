@@ -1,6 +1,6 @@
 -- What is remembered of what was served.
 use Rattle.std.proofs.Common.{◌≡◌, ◌≤◌, ◌<◌, ◌==◌, ◌&&◌, ◌∙◌, inl, inr, ⊎_elim, ℕ, Bool, true, false, cond, Option, Some, None, refl, sym, ap, subst, arith}
-use Rattle.std.specs.Prelude.{if◌then◌else◌, is_none, is_some, nat_le, not}
+use Rattle.std.specs.Prelude.{IsSome, if◌then◌else◌, is_none, is_some, nat_le, not}
 use Rattle.std.specs.BTreeMap.{BTreeMap, get}
 use Rattle.std.specs.Ordering.{is_eq, is_gt}
 use Rattle.std.proofs.lemmas.Bool.{and_parts, cases_Bool, cases_lt, eqb-true}
@@ -32,6 +32,11 @@ one_key a b = key_at a.source.kind b.source.kind a.source.view b.source.view a.t
 pub none_lower : (x y : Served) → y.source.view < x.source.view → is_gt (served_cmp x y) ≡ false → ⊥
 none_lower x y lower first = grind (arith, nat_tests, lower, first)
 
+-- what isn't there is none
+pub none_of : {A : Type 0} (o : Option A) → (IsSome o → ⊥) → o ≡ None
+none_of None never = refl
+none_of (Some x) never = absurd (never refl)
+
 from-yes : (first v : ℕ) → first ≤ v → nat_le first v ≡ true
 from-yes first v le = grind (arith, nat_tests, le)
 
@@ -46,6 +51,10 @@ unstated : (o : Option ℕ) → is_none o ≡ true → is_some o ≡ false
 unstated None is = refl
 unstated (Some t) is = absurd (cc is)
 
+pub is_stated : (time own : Option ℕ) → own ≡ time → is_none own ≡ false → is_some time ≡ true
+is_stated (Some t) own same is = refl
+is_stated None own same is = absurd (cc (same, is))
+
 -- nothing is remembered at first
 abbrev nothing : Option ℕ
 nothing = None
@@ -55,9 +64,13 @@ nothing_there true = refl
 nothing_there false = refl
 
 module _ (first : ℕ) (last : Served → Option ℕ) where
-  -- what is remembered of a certificate that can still be served
-  pub told : (time : ℕ) (o : Option ℕ) (x : Served) → first ≤ x.source.view → o ≡ (if is_some (Some time) && nat_le first x.source.view then last x else None) → o ≡ last x
-  told time o x from is = is ∙ ap (λ (b : Bool). if b then last x else None) (from-yes first x.source.view from)
+  -- whether it would be too soon is told by what is remembered, where a time is stated
+  pub soon_by : (time : Option ℕ) (stated now : ℕ) (serving : Serving) (x : Served) (found : Option ℕ) (may : Bool) → KeepsServing time first last serving → serving.time ≡ Some stated → first ≤ x.source.view
+      → found ≡ get served_cmp serving.moments x → may ≡ not (is_too_soon (Some stated) found now) → may ≡ not (is_too_soon time (last x) now)
+  soon_by time stated now serving x found may k is from got told =
+      let set : time ≡ Some stated = sym k.time_is ∙ is in
+      let last_is : found ≡ last x = got ∙ (k.moments x ∙ (ap (λ (o : Option ℕ). if is_some o && nat_le first x.source.view then last x else None) set ∙ ap (λ (b : Bool). if b then last x else None) (from-yes first x.source.view from))) in
+      told ∙ (ap (λ (o : Option ℕ). not (is_too_soon (Some stated) o now)) last_is ∙ ap (λ (o : Option ℕ). not (is_too_soon o (last x) now)) (sym set))
 
   -- where no time is stated nothing is remembered, whatever was served
   pub still_nothing : (time : Option ℕ) (serving : Serving) (more : Served → Option ℕ) → is_none serving.time ≡ true → KeepsServing time first last serving → KeepsServing time first more serving

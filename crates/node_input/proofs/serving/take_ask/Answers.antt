@@ -31,16 +31,16 @@ returns-in_default-clause-taken g c = λ s h k allowed.
     }
 
 -- it went too short a time ago
-pub returns-then-not-clause-taken : goal.returns-then-not-clause-taken
-returns-then-not-clause-taken g c = λ s h k allowed.
+pub returns-then-not-may_serve-clause-taken : goal.returns-then-not-may_serve-clause-taken
+returns-then-not-may_serve-clause-taken g c = λ s h k allowed.
     let f = formats {S = g.row.S.Denot} {P = g.row.S-PublicKey.Denot} g.D.PartialEq.eq g.D.Write.spelling g.S.Signature.Write.spelling g.S.Certificate.Write.spelling g.D.Read.reading g.S.Signature.Read.reading g.S.Certificate.Read.reading (g.S.Scheme.size s.voter.scheme) in
     let p = Wanted c.args.sender c.args.view in
     let first = first_served s.voter.length (repair_of f h) in
     let served : Served = record { source = c.in-Some.source; to = c.args.sender } in
     let is = sym (c.in-Some.ensures.source s.voter.length (repair_of f h) k.repair) in
     let late = c.what_is_served_is_of_late_views.ensures.late c.args.core.now.repair s.voter.length (repair_of f h) k.repair c.args.view c.in-Some.source is in
-    let soon : is_too_soon s.repair.answers (last_served f s h served) (latest h) ≡ true = soon_by c.may_serve.result (is_too_soon s.repair.answers (last_served f s h served) (latest h)) (latest h)
-    (c.may_serve.ensures s.repair.answers first (λ x. last_served f s h x) k.serving late ∙ ap (λ (t : ℕ). not (is_too_soon s.repair.answers (last_served f s h served) t)) (c.moment-now.ensures (finalized_of s h) h k.tables)) c.if-not.true in
+    let soon : is_too_soon s.repair.answers (last_served f s h served) (latest h) ≡ true = soon_by c.may_serve.result (is_too_soon s.repair.answers (last_served f s h served) (latest h))
+    (c.may_serve.ensures s.repair.answers first (λ x. last_served f s h x) k.serving late ∙ ap (λ (t : ℕ). not (is_too_soon s.repair.answers (last_served f s h served) t)) (c.moment-now.ensures (finalized_of s h) h k.tables)) c.if-not-may_serve.true in
     record {
       keeps = wanted-keeps k c.args.core.now.serving c.args.sender c.args.view allowed (c.silent_points_leave_votes.ensures.quiet s c.args.core.now.acceptance h p (λ u. (refl, λ r. refl)) refl k.votes)
           (c.quiet_points_leave_the_tables.ensures (finalized_of s h) c.args.core.now.tables h p refl k.tables)
@@ -48,9 +48,9 @@ returns-then-not-clause-taken g c = λ s h k allowed.
       acts = hands_as f _ _ (deeds_of g.S.Scheme f s h p) [] (held-back g.S.Scheme f s h c.args.sender c.args.view c.in-Some.source is soon) (nothing_more f c.args.out.now.items);
     }
   where
-    soon_by : (may soon : Bool) (now : ℕ) → may ≡ not soon → not may ≡ true → soon ≡ true
-    soon_by may true now is isnt = refl
-    soon_by may false now is isnt = absurd (cc (is, isnt))
+    soon_by : (may soon : Bool) → may ≡ not soon → may ≡ false → soon ≡ true
+    soon_by may true is isnt = refl
+    soon_by may false is isnt = absurd (cc (is, isnt))
 
 -- it is noted, and goes
 pub returns-clause-taken : goal.returns-clause-taken
@@ -64,7 +64,7 @@ returns-clause-taken g c = on_ok_weaker c.hand_out.result (λ done. λ s h k all
     let late = c.what_is_served_is_of_late_views.ensures.late c.args.core.now.repair s.voter.length (repair_of f h) k.repair c.args.view c.in-Some.source is in
     let now = c.moment-now.ensures (finalized_of s h) h k.tables in
     let may : is_too_soon s.repair.answers (last_served f s h served) (latest h) ≡ false = not-true (is_too_soon s.repair.answers (last_served f s h served) (latest h))
-    (sym (c.may_serve.ensures s.repair.answers first (λ x. last_served f s h x) k.serving late ∙ ap (λ (t : ℕ). not (is_too_soon s.repair.answers (last_served f s h served) t)) now) ∙ may_by c.may_serve.result c.if-not.false) in
+    (sym (c.may_serve.ensures s.repair.answers first (λ x. last_served f s h x) k.serving late ∙ ap (λ (t : ℕ). not (is_too_soon s.repair.answers (last_served f s h served) t)) now) ∙ c.if-not-may_serve.false) in
     let items = c.in-Ok.ensures.items ∙ ap (λ (l : List ℕ). l ++ c.in-Some.answer.now) c.new-bytes.ensures.items in
     record {
       keeps = wanted-keeps k c.serve.new.self c.args.sender c.args.view allowed (c.silent_points_leave_votes.ensures.quiet s c.args.core.now.acceptance h p (λ u. (refl, λ r. refl)) refl k.votes)
@@ -75,7 +75,3 @@ returns-clause-taken g c = on_ok_weaker c.hand_out.result (λ done. λ s h k all
       acts = hands_as f _ _ (deeds_of g.S.Scheme f s h p) (Serves c.args.sender c.in-Some.answer.now ∷ []) (goes-now g.S.Scheme f s h c.args.sender c.args.view c.in-Some.source is c.in-Some.answer.now there may)
           (done f (Serves c.args.sender c.in-Some.answer.now) (refl, refl, items));
     }) c.hand_out.ensures.done
-  where
-    may_by : (may : Bool) → not may ≡ false → may ≡ true
-    may_by true isnt = refl
-    may_by false isnt = absurd (cc isnt)
