@@ -1,6 +1,6 @@
 -- How often a member is served: a certificate once in a stated time, and each time it asks behind that.
-use Rattle.std.proofs.Common.{◌≡◌, ◌≢◌, ◌×◌, inl, inr, ⊎_elim, ℕ, ◌≤◌, ◌+◌, ◌==◌, ◌&&◌, Bool, true, false, List, [], ◌∷◌, ◌++◌, map, Option, Some, None, refl, sym, ◌∙◌, ap, subst, arith}
-use Rattle.std.specs.Prelude.{All, IfSome, if◌then◌else◌, nat_lt, not, option_to_list}
+use Rattle.std.proofs.Common.{◌≡◌, ◌≢◌, ⊎_elim, ℕ, ◌≤◌, ◌+◌, ◌==◌, ◌&&◌, Bool, true, false, List, [], ◌∷◌, ◌++◌, map, Option, Some, None, refl, sym, ◌∙◌, ap, arith}
+use Rattle.std.specs.Prelude.{All, IfSome, if◌then◌else◌, not, option_to_list}
 use Rattle.std.proofs.lemmas.Bool.{and_parts, cases_Bool, not-true}
 use Rattle.std.proofs.lemmas.Bool.Decides.{nat_tests}
 use Rattle.std.proofs.lemmas.List.Elements.{All-head, All-tail}
@@ -8,9 +8,9 @@ use Rattle.types_core.specs.declared.scheme.Scheme.{Ghosts}
 use Rattle.simplex_resolver.specs.declared.source.Source.{Source}
 use Rattle.simplex_resolver.specs.declared.source.SourceKind.{SourceKind}
 use Rattle.simplex_resolver.specs.declared.source.SourceKind.TheVariants as kind
-use Rattle.simplex_resolver.specs.Answers.{is_same_kind, is_same_source, produced, source}
+use Rattle.simplex_resolver.specs.Answers.{is_same_kind, produced, source}
 use Rattle.simplex_member.specs.declared.served.Served.{Served}
-use Rattle.simplex_member.specs.Deeds.{Deed, Serves, deeds_of}
+use Rattle.simplex_member.specs.Deeds.{Serves, deeds_of}
 use Rattle.simplex_member.specs.Layers.{latest, repair_of}
 use Rattle.simplex_member.specs.Packet.{Formats}
 use Rattle.simplex_member.specs.Point.{Point, Opened, Wanted, History}

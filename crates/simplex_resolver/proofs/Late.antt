@@ -1,18 +1,18 @@
 -- What is served is of late views.
 use Rattle.std.specs.Prelude.{max, nat_lt, nat_le}
-use Rattle.std.specs.Option.{option_map, option_or}
-use Rattle.std.proofs.Common.{◌≡◌, ◌⊎◌, inl, inr, ⊎_elim, ◌≤◌, ◌<◌, ◌×◌, ℕ, zero, suc, Bool, true, false, List, ◌∷◌, Option, Some, None, refl, sym, subst, ap, ◌∙◌, arith, if◌then◌else◌}
+use Rattle.std.specs.Option.{option_map}
+use Rattle.std.proofs.Common.{◌≡◌, ◌⊎◌, inl, inr, ⊎_elim, ◌≤◌, ◌<◌, ℕ, zero, suc, Bool, true, false, List, ◌∷◌, Option, Some, None, refl, subst, ap, ◌∙◌, arith, if◌then◌else◌}
 use Rattle.std.proofs.lemmas.Bool.{cases_lt}
 use Rattle.std.proofs.lemmas.Bool.Decides.{nat_tests}
 use Rattle.types_core.specs.Positions.{term_start}
 use Rattle.simplex_resolver.specs.declared.source.Source.{Source}
 use Rattle.simplex_resolver.specs.declared.source.SourceKind.{SourceKind}
 use Rattle.simplex_resolver.specs.declared.source.SourceKind.TheVariants as kind
-use Rattle.simplex_resolver.specs.RepairHistory.{Item, finalized, finalizes, finalization, floor, nullification, certified}
+use Rattle.simplex_resolver.specs.RepairHistory.{Item, finalized, finalizes, finalization, floor, nullification}
 use Rattle.simplex_resolver.specs.Answers.{covering_view, first_served, highest_nullified, named, named_of, servable, source}
 use Rattle.simplex_resolver.proofs.Choices.{max_zero, nat_le-no, nat_le-yes, nat_lt-no, nat_lt-yes, option_cases}
 use Rattle.simplex_resolver.proofs.Serving.{either}
-use Rattle.simplex_resolver.proofs.TermStarts.{start-end, term_end-ge, term_start-ge}
+use Rattle.simplex_resolver.proofs.TermStarts.{start-end, term_start-ge}
 
 -- which certificate bytes that are there are of
 of_view : (is : SourceKind) (view : ℕ) (o : Option (List ℕ)) (x : Source) → named_of is view o ≡ Some x → (x.view ≡ view) × ((bytes : List ℕ) × (o ≡ Some bytes))

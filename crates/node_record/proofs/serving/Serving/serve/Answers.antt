@@ -1,5 +1,3 @@
-use Rattle.std.proofs.Common.{◌≡◌, ◌∙◌, Option, ℕ, true, sym, ap}
-use Rattle.std.specs.Prelude.{is_some}
 use Rattle.node_record.proofs.Serving.{is_stated, one_noted, still_nothing}
 use Rattle.node_record.proofs.serving.Serving.serve.Goals as goal
 

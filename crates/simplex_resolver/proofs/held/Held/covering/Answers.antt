@@ -1,4 +1,4 @@
-use Rattle.std.proofs.Common.{◌≡◌, ◌×◌, ◌<◌, sym, ◌∙◌, ap, Some, List, Option, arith, ℕ}
+use Rattle.std.proofs.Common.{◌≡◌, ◌<◌, sym, ◌∙◌, ap, Some, arith}
 use Rattle.std.proofs.lemmas.Bool.Decides.{nat_tests}
 use Rattle.std.specs.Option.{option_map}
 use Rattle.std.specs.Ordering.{nat_cmp}
@@ -6,7 +6,7 @@ use Rattle.std.specs.BTreeMap.Range.{IsRangeOf}
 use Rattle.std.specs.declared.ops.Bound.TheVariants.{Included}
 use Rattle.types_core.specs.Positions.{term_start}
 use Rattle.simplex_resolver.specs.declared.source.SourceKind.TheVariants as kind
-use Rattle.simplex_resolver.specs.Answers.{covering, covering_view, named}
+use Rattle.simplex_resolver.specs.Answers.{named}
 use Rattle.simplex_resolver.specs.RepairHistory.{finalized}
 use Rattle.simplex_resolver.proofs.Covers.{covering-none, covering-is}
 use Rattle.simplex_resolver.proofs.held.Held.covering.Goals as goal

@@ -1,8 +1,7 @@
 use Rattle.std.specs.Prelude.{nat_le}
 use Rattle.std.specs.Option.{option_map, option_or}
-use Rattle.std.proofs.Common.{◌≡◌, ◌≤◌, ◌<◌, sym, ◌∙◌, ap, arith, ℕ, Bool, List, Option, Some, None, if◌then◌else◌}
+use Rattle.std.proofs.Common.{◌≡◌, ◌≤◌, ◌<◌, sym, ◌∙◌, ap, arith, ℕ, Bool, Option, Some, None, if◌then◌else◌}
 use Rattle.std.proofs.lemmas.Bool.Decides.{nat_tests}
-use Rattle.simplex_resolver.specs.declared.source.Source.{Source}
 use Rattle.simplex_resolver.specs.declared.source.SourceKind.TheVariants as kind
 use Rattle.simplex_resolver.specs.RepairHistory.{floor}
 use Rattle.simplex_resolver.specs.Answers.{named_of, servable}
