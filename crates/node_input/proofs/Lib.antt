@@ -5,5 +5,5 @@ mod Judging
 mod Tests
 mod Refusals
 mod Heeding
-mod Serving
+mod Answered
 mod Replying

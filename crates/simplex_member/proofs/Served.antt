@@ -15,7 +15,7 @@ use Rattle.simplex_member.specs.Layers.{latest, repair_of}
 use Rattle.simplex_member.specs.Packet.{Formats}
 use Rattle.simplex_member.specs.Point.{Point, Opened, Wanted, History}
 use Rattle.simplex_member.specs.Served.{goes_to, is_too_soon, last_served, may_serve}
-use Rattle.simplex_member.specs.Serving.{AsksOfOthersChangeNothingElse, EachAskIsAnswered, ServedOnceInATime, WasServed, WhoAsksLaterIsServed, is_opening}
+use Rattle.simplex_member.specs.Answering.{AsksOfOthersChangeNothingElse, EachAskIsAnswered, ServedOnceInATime, WasServed, WhoAsksLaterIsServed, is_opening}
 use Rattle.simplex_member.specs.Setup.{Setup}
 use Rattle.simplex_member.proofs.Telling.{apart}
 
@@ -85,8 +85,12 @@ module _ {S D P G C : Type 0} (g : Ghosts S D P G C) (f : Formats S D P G C) (s 
       at-first =
           let goes : goes_to x.to (source s.voter.length (repair_of f before) first) x ≡ true = ap (λ (o : Option Source). goes_to x.to o x) was.best ∙ goes-itself x in
           let soon : is_too_soon s.repair.answers (last_served f s before x) (latest before) ≡ false =
-          ap (λ (a : Option ℕ). is_too_soon a (last_served f s before x) (latest before)) stated ∙ in-time before first was in
-          (latest before, rw (goes, soon) refl, omega arith)
+          ap (λ (a : Option ℕ). is_too_soon a (last_served f s before x) (latest before)) stated ∙ in-time before first was in (
+            latest before,
+            ap (λ (b : Bool). if b && not (is_too_soon s.repair.answers (last_served f s before x) (latest before)) then Some (latest before) else last_served f s before x) goes
+                ∙ ap (λ (b : Bool). if not b then Some (latest before) else last_served f s before x) soon,
+            omega arith,
+          )
 
       -- one more ask
       served-then : (h : History S D P G C) (member view : ℕ) → From h → From (Wanted member view ∷ h)

@@ -17,4 +17,4 @@ pub mod Laws
 pub mod Floors
 pub mod Sent
 pub mod Repairing
-pub mod Serving
+pub mod Answering

@@ -12,7 +12,7 @@ use Rattle.simplex_member.specs.Served.{is_too_soon, last_served}
 use Rattle.node_outbox.specs.Handing.{hands_as, nothing_more}
 use Rattle.node_record.specs.Serving.{keeps_as, noted}
 use Rattle.node_input.proofs.Heeding.{wanted-keeps}
-use Rattle.node_input.proofs.Serving.{goes-now, held-back, last-held, last-now, last-unserved, nothing-served}
+use Rattle.node_input.proofs.Answered.{goes-now, held-back, last-held, last-now, last-unserved, nothing-served}
 use Rattle.node_input.proofs.serving.take_ask.Goals as goal
 
 -- there is nothing to serve

@@ -2,7 +2,7 @@ use Rattle.std.proofs.Common.{◌≤◌, arith}
 use Rattle.std.specs.BTreeMap.{get}
 use Rattle.std.proofs.lemmas.Bool.Decides.{nat_tests}
 use Rattle.node_record.specs.Serving.{served_cmp}
-use Rattle.node_record.proofs.Serving.{none_lower, none_of}
+use Rattle.node_record.proofs.Noted.{none_lower, none_of}
 use Rattle.node_record.proofs.serving.forget_moments.Goals as goal
 
 -- the first is of no view before

@@ -1,4 +1,4 @@
-use Rattle.node_record.proofs.Serving.{left_from}
+use Rattle.node_record.proofs.Noted.{left_from}
 use Rattle.node_record.proofs.serving.Serving.drop_before.Goals as goal
 
 pub returns : goal.returns

@@ -1,7 +1,7 @@
 use Rattle.std.proofs.Common.{◌∙◌, ℕ, Option, refl, sym, ap}
 use Rattle.std.specs.Prelude.{not}
 use Rattle.simplex_member.specs.Served.{is_too_soon}
-use Rattle.node_record.proofs.Serving.{soon_by}
+use Rattle.node_record.proofs.Noted.{soon_by}
 use Rattle.node_record.proofs.serving.Serving.may_serve.Goals as goal
 
 -- no time is stated

@@ -1,6 +1,6 @@
 use Rattle.std.proofs.Common.{◌&&◌, refl}
 use Rattle.std.specs.Prelude.{is_some, nat_le}
-use Rattle.node_record.proofs.Serving.{nothing_there}
+use Rattle.node_record.proofs.Noted.{nothing_there}
 use Rattle.node_record.proofs.serving.Serving.new.Goals as goal
 
 pub returns : goal.returns

@@ -1,4 +1,4 @@
-use Rattle.node_record.proofs.Serving.{is_stated, one_noted, still_nothing}
+use Rattle.node_record.proofs.Noted.{is_stated, one_noted, still_nothing}
 use Rattle.node_record.proofs.serving.Serving.serve.Goals as goal
 
 -- no time is stated

@@ -1,7 +1,7 @@
 //! What follows from how often a member serves another one.
 
 ghost use Rattle.simplex_member.specs.Packet.{Formats};
-ghost use Rattle.simplex_member.specs.Serving.{AsksOfOthersChangeNothingElse, EachAskIsAnswered, ServedOnceInATime, WhoAsksLaterIsServed};
+ghost use Rattle.simplex_member.specs.Answering.{AsksOfOthersChangeNothingElse, EachAskIsAnswered, ServedOnceInATime, WhoAsksLaterIsServed};
 ghost use Rattle.simplex_member.specs.Setup.{Setup};
 
 use types_core::{Digest, Scheme};

@@ -1,5 +1,5 @@
 -- What follows from how often a member serves another one, as statements. Each is proved where a function without a body has it as a
--- clause (`serving.rt`).
+-- clause (`answering.rt`).
 use Rattle.std.specs.Prelude.{◌≡◌, ◌≢◌, ◌≤◌, ◌+◌, ◌++◌, ℕ, Bool, true, false, List, [], ◌∷◌, All, Some, None, IfSome, map, option_to_list}
 use Rattle.types_core.specs.declared.scheme.Scheme.{Ghosts}
 use Rattle.simplex_resolver.specs.declared.source.Source.{Source}
