@@ -110,17 +110,22 @@ def last_heard(h, member):
 # ---- what others asked
 
 
+def served_to(member, certificate):
+    """What is told apart of what members are served: to whom it goes, and the certificate's view and kind."""
+    return member, certificate.view, certificate.kind
+
+
 @over({})
 def served_at(moments, here):
     """When which member was served which certificate last."""
     if not isinstance(here.point, Wanted):
         return moments
     certificate = answer_to(here.before, here.point.member, here.point.view)
-    return moments if certificate is None else {**moments, (here.point.member, certificate): latest(here.before)}
+    return moments if certificate is None else {**moments, served_to(here.point.member, certificate): latest(here.before)}
 
 
 def answer_to(h, member, view):
     """What a member is served that asks for a view, or None: the same certificate not again before the stated time has passed."""
     certificate, answers = served(h, view), h.setup.answers
-    last = None if certificate is None or answers is None else served_at(h).get((member, certificate))
+    last = None if certificate is None or answers is None else served_at(h).get(served_to(member, certificate))
     return None if last is not None and latest(h) < last + answers else certificate

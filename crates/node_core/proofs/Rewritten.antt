@@ -71,5 +71,6 @@ module _ {S L D P G C K : Type 0} (g : Ghosts S D P G C) (e : elector.Ghosts L S
       repair = keeps.repair;
       ledger = kept c next;
       tables = tables c;
+      serving = keeps.serving;
     };
   }

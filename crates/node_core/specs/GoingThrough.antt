@@ -9,6 +9,7 @@ use Rattle.node_votes.specs.KeepsVotes as accepting
 use Rattle.simplex_resolver.specs.Keeps as repairing
 use Rattle.node_record.specs.declared.recorded.Recorded.{Recorded}
 use Rattle.node_record.specs.Recorded.{HoldsRecord}
+use Rattle.node_record.specs.Serving.{KeepsServing}
 use Rattle.node_record.specs.Tables.{KeepsTables}
 use Rattle.simplex_member.specs.declared.action.Action.{Action}
 use Rattle.simplex_member.specs.Allowed.{AreAllowed}
@@ -18,6 +19,7 @@ use Rattle.simplex_member.specs.Member.{AreOpening, Goes}
 use Rattle.simplex_member.specs.Packet.{Formats}
 use Rattle.simplex_member.specs.Point.{Point, Opened, Found, History}
 use Rattle.simplex_member.specs.Recorded.{kept_of, record_of}
+use Rattle.simplex_member.specs.Served.{last_served}
 use Rattle.simplex_member.specs.Setup.{Setup, owner_of}
 use Rattle.node_core.specs.declared.layers.Layers.{Layers}
 
@@ -55,12 +57,13 @@ module _ {S D P G C : Type 0} (g : Ghosts S D P G C) (f : Formats S D P G C) (s 
     pub hands_out : AreActions f actions (all_deeds g f s [] points)
 
 module _ {S L D P G C : Type 0} (g : Ghosts S D P G C) (e : elector.Ghosts L S D P G C) (f : Formats S D P G C) (s : Setup S D C) where
-  -- what a node keeps above its record stands where this history leads, in which nothing was asked for
+  -- what a node keeps above its record stands where this history leads, in which nothing was asked for or served
   pub record StandAt (layers : Layers S L D P G C) (h : History S D P G C) : Type 0 where
     pub voter : voting.Keeps g e s.voter layers.voter (voter_of s h)
     pub votes : accepting.Keeps g f.same s layers.acceptance h
     pub repair : repairing.Keeps s.voter.length layers.repair (repair_of f h)
     pub tables : (low : ℕ) → KeepsTables low layers.tables h
+    pub serving : (first : ℕ) → KeepsServing s.repair.answers first (λ x. last_served f s h x) layers.serving
 
   -- nothing happened yet to what a node keeps above its record, which is opened at this moment
   pub record AreNew (now : ℕ) (layers : Layers S L D P G C) : Type 0 where
@@ -68,6 +71,7 @@ module _ {S L D P G C : Type 0} (g : Ghosts S D P G C) (e : elector.Ghosts L S D
     pub votes : accepting.Keeps g f.same s layers.acceptance []
     pub repair : repairing.Keeps s.voter.length layers.repair []
     pub tables : (low : ℕ) → KeepsTables low layers.tables (Opened now ∷ [])
+    pub serving : (first : ℕ) → KeepsServing s.repair.answers first (λ x. last_served f s (Opened now ∷ []) x) layers.serving
 
   -- A record is being gone through. All of it is at hand, but the history is behind: it says the first artifacts, at which all that
   -- is kept above the record stands and which were reported, and the rest is still to come.

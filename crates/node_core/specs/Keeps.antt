@@ -5,6 +5,7 @@ use Rattle.types_core.specs.declared.scheme.Scheme.{Ghosts}
 use Rattle.types_terms.specs.declared.elector.Elector as elector
 use Rattle.simplex_state.specs.State as voting
 use Rattle.node_votes.specs.KeepsVotes as accepting
+use Rattle.simplex_resolver.specs.Answers.{first_served}
 use Rattle.simplex_resolver.specs.Keeps as repairing
 use Rattle.messages_certificates.specs.declared.artifact.Artifact.{Artifact}
 use Rattle.journal_single.specs.declared.disk.Disk as disk
@@ -12,12 +13,14 @@ use Rattle.journal_books.specs.declared.books.Books.{Books}
 use Rattle.journal_books.specs.declared.disks.Disks.{Disks}
 use Rattle.node_record.specs.Ledger as ledgers
 use Rattle.node_record.specs.Ledger.{KeepsRecord}
+use Rattle.node_record.specs.Serving.{KeepsServing}
 use Rattle.node_record.specs.Tables.{KeepsTables}
 use Rattle.simplex_member.specs.Allowed.{AreAllowed}
 use Rattle.simplex_member.specs.Layers.{finalized_of, is_begun, repair_of, voter_of}
 use Rattle.simplex_member.specs.Packet.{Formats}
 use Rattle.simplex_member.specs.Point.{History}
 use Rattle.simplex_member.specs.Recorded.{kept_of}
+use Rattle.simplex_member.specs.Served.{last_served}
 use Rattle.simplex_member.specs.Setup.{Setup, owner_of}
 use Rattle.node_core.specs.SettingUp.{IsSetUp}
 use Rattle.node_core.specs.declared.node_state.Core.{Core}
@@ -42,6 +45,7 @@ module _ {S L D P G C K : Type 0} (g : Ghosts S D P G C) (e : elector.Ghosts L S
     pub repair : repairing.Keeps s.voter.length node.repair (repair_of f h)
     pub ledger : KeepsRecord k f.artifact (owner_of s) node.ledger (kept_of s.voter.length h)
     pub tables : KeepsTables (finalized_of s h) node.tables h
+    pub serving : KeepsServing s.repair.answers (first_served s.voter.length (repair_of f h)) (λ x. last_served f s h x) node.serving
 
   -- what holds of each history that leads here, however values are compared and spelled
   abbrev pub AtAll : Core S L D K P G C → (Formats S D P G C → Setup S D C → History S D P G C → Type 0) → Type 0

@@ -7,6 +7,7 @@ use Rattle.journal_single.specs.declared.disk.Disk as disk
 use Rattle.node_votes.specs.declared.acceptance.Acceptance.{Acceptance}
 use Rattle.node_votes.specs.KeepsVotes as accepting
 use Rattle.node_record.specs.declared.tables.Tables.{Tables}
+use Rattle.node_record.specs.Serving.{keeps_as}
 use Rattle.node_record.specs.Tables.{KeepsTables}
 use Rattle.simplex_member.specs.Allowed.{Allowed}
 use Rattle.simplex_member.specs.Layers.{finalized_of}
@@ -22,12 +23,15 @@ use Rattle.voter_history.specs.History.{last_finalized}
 use Rattle.simplex_state.specs.declared.state.State.{State}
 use Rattle.simplex_state.specs.State as voting
 use Rattle.node_votes.specs.KeepsVotes.{QuietStays, SaysNothing}
+use Rattle.simplex_resolver.specs.Answers.{first_served}
 use Rattle.simplex_resolver.specs.Keeps as repairing
 use Rattle.simplex_resolver.specs.RepairHistory.{Item}
 use Rattle.node_record.specs.Ledger.{KeepsRecord}
 use Rattle.simplex_member.specs.Layers.{is_begun, may_enter, repair_of, voter_of}
 use Rattle.simplex_member.specs.Point.{Point}
+use Rattle.simplex_member.specs.declared.served.Served.{Served}
 use Rattle.simplex_member.specs.Recorded.{kept_of}
+use Rattle.simplex_member.specs.Served.{last_served}
 use Rattle.simplex_member.specs.Setup.{owner_of}
 use Rattle.std.proofs.Common.{◌≤◌, [], ◌∙◌, ap, arith}
 use Rattle.types_core.specs.Positions.{HasRoom}
@@ -74,15 +78,17 @@ module _ {S L D P G C K : Type 0} {g : Ghosts S D P G C} {e : elector.Ghosts L S
     repair = kept.repair;
     ledger = kept.ledger;
     tables = kept.tables;
+    serving = kept.serving;
   }
 
 module _ {S L D P G C K : Type 0} (g : Ghosts S D P G C) (e : elector.Ghosts L S D P G C) (k : disk.Ghosts K) (f : Formats S D P G C) (s : Setup S D C) where
-  -- where neither votes nor repair nor record are told of it
+  -- where neither votes nor repair nor record are told of it, and nothing is served
   pub stands_behind : (node : Core S L D K P G C) (voter : State S L D P G C) (tables : Tables S D P G C) (h : History S D P G C) (p : Point S D P G C)
       → QuietStays g f.same → SaysNothing p → may_enter p ≡ false → is_begun (p ∷ h) ≡ true → repair_of f (p ∷ h) ≡ repair_of f h → kept_of s.voter.length (p ∷ h) ≡ kept_of s.voter.length h
+      → ((x : Served) → last_served f s (p ∷ h) x ≡ last_served f s h x)
       → CoreKeeps g e k f s node h → Allowed g f s h p → voting.Keeps g e s.voter voter (voter_of s (p ∷ h)) → KeepsTables (finalized_of s (p ∷ h)) tables (p ∷ h)
       → CoreKeeps g e k f s (record node { voter = voter; tables = tables }) (p ∷ h)
-  stands_behind node voter tables h p quiet nothing never begun no_repair no_record keeps may voter_keeps tables_keep = record {
+  stands_behind node voter tables h p quiet nothing never begun no_repair no_record unserved keeps may voter_keeps tables_keep = record {
     begun = begun;
     allowed = (may, keeps.allowed);
     set_up = keeps.set_up;
@@ -91,4 +97,6 @@ module _ {S L D P G C K : Type 0} (g : Ghosts S D P G C) (e : elector.Ghosts L S
     repair = subst (λ (items : List Item). repairing.Keeps s.voter.length node.repair items) (sym no_repair) keeps.repair;
     ledger = subst (λ (xs : List (Artifact S D P G C)). KeepsRecord k f.artifact (owner_of s) node.ledger xs) (sym no_record) keeps.ledger;
     tables = tables_keep;
+    serving = keeps_as s.repair.answers (first_served s.voter.length (repair_of f h)) (first_served s.voter.length (repair_of f (p ∷ h))) (λ x. last_served f s h x) (λ x. last_served f s (p ∷ h) x) node.serving
+        (ap (first_served s.voter.length) no_repair) unserved keeps.serving;
   }

@@ -16,7 +16,7 @@ use crate::settings::Settings;
 use crate::telling::tell_votes;
 use crate::told_layers::{own_votes_come_free, what_is_not_recorded_is_unknown};
 use messages_certificates::Artifact;
-use node_record::{Recorded, Tables, quiet_points_leave_the_tables};
+use node_record::{Recorded, Serving, Tables, quiet_points_leave_the_tables};
 use node_votes::{Acceptance, silent_points_leave_votes};
 use simplex_member::{Action, Speaks, packets_are_read_back};
 use simplex_record::lawful_records_leave_room;
@@ -29,13 +29,15 @@ use voter_laws::what_is_known_stays;
 use voter_rules::Floor;
 use voter_rules::config::Config;
 
-/// What a node keeps above its record: what it knows, which votes it accepted, what it can serve, and what it asked for.
+/// What a node keeps above its record: what it knows, which votes it accepted, what it can serve, and what it asked for
+/// and served.
 #[derive(Drop)]
 pub struct Layers<S: Scheme<D>, L: Elector<S, D>, D: Digest> {
     pub voter: Voter<S, L, D>,
     pub acceptance: Acceptance<S, D>,
     pub repair: Repair,
     pub tables: Tables<S, D>,
+    pub serving: Serving,
 }
 
 impl<S: Scheme<D> + Drop, L: Elector<S, D>, D: Digest> Layers<S, L, D> {
@@ -94,11 +96,13 @@ impl<S: Scheme<D> + Drop, L: Elector<S, D>, D: Digest> Layers<S, L, D> {
         );
         let repair = Repair::new(alloc, owner.term_length);
         let tables = Tables::new(alloc, now);
+        let serving = Serving::new(alloc, settings.repair.answers);
         Ok(Layers {
             voter,
             acceptance,
             repair,
             tables,
+            serving,
         })
     }
 

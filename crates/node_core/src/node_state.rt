@@ -2,7 +2,7 @@
 
 use crate::settings::Settings;
 use journal_single::Disk;
-use node_record::{Ledger, Tables};
+use node_record::{Ledger, Serving, Tables};
 use node_votes::Acceptance;
 use simplex_resolver::State as Repair;
 use simplex_state::State as Voter;
@@ -25,4 +25,6 @@ pub struct Core<S: Scheme<D>, L: Elector<S, D>, D: Digest, K: Disk> {
     pub ledger: Ledger<S, D, K>,
     /// What was asked for and is not answered, and when.
     pub tables: Tables<S, D>,
+    /// What was served to other members, and when.
+    pub serving: Serving,
 }

@@ -18,7 +18,7 @@ pub struct Settings<S> {
     pub forward: ForwardPolicy,
     /// For how long a leader may be silent, in milliseconds, where views are given up for that.
     pub silence: Option<u64>,
-    /// How the member asks for what it lacks.
+    /// How the member asks for what it lacks, and how often it answers others.
     pub repair: RepairPolicy,
     /// The longest of all times, in milliseconds: a moment is told only where each deadline that is counted
     /// from it has a number.

@@ -238,6 +238,7 @@ module _ {S L D P G C K : Type 0} (g : Ghosts S D P G C) (e : elector.Ghosts L S
     repair = keeps.repair;
     ledger = keeps.ledger;
     tables = keeps.tables;
+    serving = keeps.serving;
   }
 
   -- it made a point, of which nothing else knows
@@ -405,6 +406,7 @@ module _ {S L D P G C K : Type 0} (g : Ghosts S D P G C) (e : elector.Ghosts L S
     repair = ahead.keeps.repair;
     ledger = subst (λ (a : Artifact S D P G C). KeepsRecord k f.artifact (owner_of s) ledger (kept_of s.voter.length h ++ a ∷ [])) is recorded;
     tables = subst (λ (low : ℕ). KeepsTables low node.tables (Votes v ∷ h)) (sym (cast_finalizes_nothing v (voter_of s h))) tables;
+    serving = ahead.keeps.serving;
   }
 
   -- and what it hands out is the vote, and its report
@@ -418,7 +420,7 @@ module _ {S L D P G C K : Type 0} (g : Ghosts S D P G C) (e : elector.Ghosts L S
   pub behind_poll : (node : Core S L D K P G C) (voter : State S L D P G C) (h : History S D P G C) → QuietStays g f.same → CoreKeeps g e k f s node h → voting.Keeps g e s.voter voter (voter_of s (after_poll s h))
       → CoreKeeps g e k f s (record node { voter = voter }) (after_poll s h)
   behind_poll node voter h quiet keeps = after_poll_by g f s h (λ (at : History S D P G C). voting.Keeps g e s.voter voter (voter_of s at) → CoreKeeps g e k f s (record node { voter = voter }) at)
-      (λ lacks looks. stands_behind g e k f s node voter node.tables h Polls quiet (λ view. (refl, λ r. refl)) refl keeps.begun refl refl keeps
+      (λ lacks looks. stands_behind g e k f s node voter node.tables h Polls quiet (λ view. (refl, λ r. refl)) refl keeps.begun refl refl (λ x. refl) keeps
       (record { order = keeps.begun; due = lacks; fits = tt; readable = tt }) looks keeps.tables)
       (λ known looks. still_stands g e k f s node voter h keeps looks)
 
@@ -443,7 +445,7 @@ module _ {S L D P G C K : Type 0} (g : Ghosts S D P G C) (e : elector.Ghosts L S
       → KeepsTables (finalized_of s h) tables (Repeats v best ∷ h) → CoreKeeps g e k f s (record node { voter = voter; tables = tables }) (Repeats v best ∷ h)
   behind_repeat node voter tables h v best view quiet keeps may at made told =
       let repeats = ahead_nullify voter h v view at made in
-      stands_behind g e k f s node voter tables h (Repeats v best) quiet (λ view. (refl, λ r. refl)) refl keeps.begun refl refl keeps may repeats told
+      stands_behind g e k f s node voter tables h (Repeats v best) quiet (λ view. (refl, λ r. refl)) refl keeps.begun refl refl (λ x. refl) keeps may repeats told
 
 -- ---- when the current view is given up again
 

@@ -26,15 +26,18 @@ use Rattle.node_votes.specs.declared.acceptance.Acceptance.{Acceptance}
 use Rattle.node_votes.specs.declared.due.Due.TheVariants as due
 use Rattle.node_votes.specs.KeepsVotes as accepting
 use Rattle.simplex_resolver.specs.declared.state.State as resolving
+use Rattle.simplex_resolver.specs.Answers.{first_served}
 use Rattle.simplex_resolver.specs.Keeps as repairing
-use Rattle.simplex_resolver.specs.RepairHistory.{item_of}
+use Rattle.simplex_resolver.specs.RepairHistory.{Item, item_of}
 use Rattle.journal_single.specs.declared.disk.Disk as disk
 use Rattle.journal_books.specs.declared.books.Books.{Books}
 use Rattle.journal_books.specs.Books.{IsWithOrWithout, LeaveBook}
 use Rattle.journal_books.specs.BooksLaws.{book_weaker}
 use Rattle.node_record.specs.declared.ledger.Ledger.{Ledger}
+use Rattle.node_record.specs.declared.serving.Serving.{Serving}
 use Rattle.node_record.specs.declared.tables.Tables.{Tables}
 use Rattle.node_record.specs.Ledger.{KeepsRecord}
+use Rattle.node_record.specs.Serving.{KeepsServing}
 use Rattle.node_record.specs.Tables.{KeepsTables}
 use Rattle.simplex_member.specs.declared.action.Action.{Action}
 use Rattle.simplex_member.specs.declared.fault.NodeFault.{NodeFault}
@@ -46,6 +49,7 @@ use Rattle.simplex_member.specs.Layers.{finalized_of, latest, may_enter, repair_
 use Rattle.simplex_member.specs.Packet.{Formats, IsRecordable}
 use Rattle.simplex_member.specs.Point.{History, Point, Constructs, Forwards, is_act}
 use Rattle.simplex_member.specs.Recorded.{added_by, kept_of, record_of}
+use Rattle.simplex_member.specs.Served.{last_served}
 use Rattle.simplex_member.specs.Refusals.{HasNoneLike}
 use Rattle.simplex_member.specs.Setup.{Setup, owner_of}
 use Rattle.node_core.specs.Learning.{IsUnknown, first_of}
@@ -135,14 +139,15 @@ made_recordable f Spelled within n law (Some c) read spelled = law (certificate_
 module _ {S L D P G C K : Type 0} (g : Ghosts S D P G C) (e : elector.Ghosts L S D P G C) (k : disk.Ghosts K) (f : Formats S D P G C) (s : Setup S D C) where
   module _ (h : History S D P G C) (x : Certificate S D P G C) where
     -- all layers but the votes of its view learned of a certificate, and it is recorded
-    pub record HaveLearned (voter : State S L D P G C) (repair : resolving.State) (ledger : Ledger S D K P G C) (tables : Tables S D P G C) : Type 0 where
+    pub record HaveLearned (voter : State S L D P G C) (repair : resolving.State) (ledger : Ledger S D K P G C) (tables : Tables S D P G C) (serving : Serving) : Type 0 where
       pub told : voting.Keeps g e s.voter voter (takes_certificate (latest h) (finalized_of s h) x ++ voter_of s h)
       pub repaired : repairing.Keeps s.voter.length repair (item_of f.certificate x ∷ repair_of f h)
       pub recorded : KeepsRecord k f.artifact (owner_of s) ledger (kept_of s.voter.length h ++ certificate_artifact x ∷ [])
       pub forgot : KeepsTables (last_finalized (takes_certificate (latest h) (finalized_of s h) x ++ voter_of s h)) tables h
+      pub dropped : KeepsServing s.repair.answers (first_served s.voter.length (item_of f.certificate x ∷ repair_of f h)) (λ y. last_served f s h y) serving
 
     -- each by its own word, where the certificate may be recorded
-    pub have_learned : (voter : State S L D P G C) (repair : resolving.State) (ledger : Ledger S D K P G C) (tables : Tables S D P G C) (artifact : Artifact S D P G C) (now final : ℕ)
+    pub have_learned : (voter : State S L D P G C) (repair : resolving.State) (ledger : Ledger S D K P G C) (tables : Tables S D P G C) (serving : Serving) (artifact : Artifact S D P G C) (now final first : ℕ)
         → MayFollow s.voter.length (entries (record_of h)) (entry (certificate_artifact x)) → MayFollow s.voter.length (entries (kept_of s.voter.length h)) (entry (certificate_artifact x)) → artifact ≡ certificate_artifact x → now ≡ latest h
         → (HasNoneLike g f s h (certificate_statement x) → IsUnknown s.voter (voter_of s h) x)
         → (HasRoom s.voter.length (certificate_round x).view → IsUnknown s.voter (voter_of s h) x → voting.Keeps g e s.voter voter (takes_certificate now (finalized_of s h) x ++ voter_of s h))
@@ -150,17 +155,23 @@ module _ {S L D P G C K : Type 0} (g : Ghosts S D P G C) (e : elector.Ghosts L S
         → (MayFollow s.voter.length (entries (kept_of s.voter.length h)) (entry artifact) → KeepsRecord k f.artifact (owner_of s) ledger (kept_of s.voter.length h ++ artifact ∷ []))
         → ((v : List (views.Point S D P G C)) → voting.Keeps g e s.voter voter v → final ≡ last_finalized v)
         → (finalized_of s h ≤ final → KeepsTables final tables h)
-        → HaveLearned voter repair ledger tables
-    have_learned voter repair ledger tables artifact now final follows fits copy at unknown tells repairs records ends forgets =
+        → ((items : List Item) → repairing.Keeps s.voter.length repair items → first ≡ first_served s.voter.length items)
+        → ((x : Item) → first_served s.voter.length (repair_of f h) ≤ first_served s.voter.length (x ∷ repair_of f h))
+        → (first_served s.voter.length (repair_of f h) ≤ first → KeepsServing s.repair.answers first (λ y. last_served f s h y) serving)
+        → HaveLearned voter repair ledger tables serving
+    have_learned voter repair ledger tables serving artifact now final first follows fits copy at unknown tells repairs records ends forgets firsts later drops =
         let room = room_of s.voter.length (entries (record_of h)) x follows in
         let told = subst (λ (t : ℕ). voting.Keeps g e s.voter voter (takes_certificate t (finalized_of s h) x ++ voter_of s h)) at (tells room (unknown (first_of s.voter.length (entries (record_of h)) x follows))) in
         let last : final ≡ last_finalized (takes_certificate (latest h) (finalized_of s h) x ++ voter_of s h) = ends _ told in
+        let served : first ≡ first_served s.voter.length (item_of f.certificate x ∷ repair_of f h) = firsts _ (repairs room) in
         record {
           told = told;
           repaired = repairs room;
           recorded = subst (λ (a : Artifact S D P G C). KeepsRecord k f.artifact (owner_of s) ledger (kept_of s.voter.length h ++ a ∷ [])) copy
               (records (subst (λ (a : Artifact S D P G C). MayFollow s.voter.length (entries (kept_of s.voter.length h)) (entry a)) (sym copy) fits));
           forgot = subst (λ (n : ℕ). KeepsTables n tables h) last (forgets (subst (λ (n : ℕ). finalized_of s h ≤ n) (sym last) (rises (latest h) (finalized_of s h) x (voter_of s h))));
+          dropped = subst (λ (n : ℕ). KeepsServing s.repair.answers n (λ y. last_served f s h y) serving) served
+              (drops (subst (λ (n : ℕ). first_served s.voter.length (repair_of f h) ≤ n) (sym served) (later (item_of f.certificate x))));
         }
 
   -- the voter is told of a proposal that was forwarded
@@ -176,6 +187,7 @@ module _ {S L D P G C K : Type 0} (g : Ghosts S D P G C) (e : elector.Ghosts L S
     repair = ahead.keeps.repair;
     ledger = ahead.keeps.ledger;
     tables = ahead.keeps.tables;
+    serving = ahead.keeps.serving;
   }
 
   module _ (node : Core S L D K P G C) (acceptance : Acceptance S D P G C) (h : History S D P G C) (view : ℕ) (kind : Kind) (batch : Batch (Certificate S D P G C)) where
@@ -184,12 +196,12 @@ module _ {S L D P G C K : Type 0} (g : Ghosts S D P G C) (e : elector.Ghosts L S
     Enters voter = (p : Point S D P G C) → may_enter p ≡ true → voting.Keeps g e s.voter voter (voter_of s (p ∷ h)) → accepting.KeepsAhead g f.same s node.acceptance h p → accepting.Keeps g f.same s acceptance (p ∷ h)
 
     -- the node stands behind a construction that made a certificate, once all layers learned of that
-    pub made_keeps : (voter : State S L D P G C) (repair : resolving.State) (ledger : Ledger S D K P G C) (tables : Tables S D P G C) (x : Certificate S D P G C) → batch.certificate ≡ Some x
-        → VotesGoAhead g e k f s node h (Constructs view kind batch) → Allowed g f s h (Constructs view kind batch) → HaveLearned h x voter repair ledger tables → Enters voter
-        → CoreKeeps g e k f s (record node { voter = voter; acceptance = acceptance; repair = repair; ledger = ledger; tables = tables }) (Constructs view kind batch ∷ h)
-    made_keeps voter repair ledger tables x is ahead may learned enters =
+    pub made_keeps : (voter : State S L D P G C) (repair : resolving.State) (ledger : Ledger S D K P G C) (tables : Tables S D P G C) (serving : Serving) (x : Certificate S D P G C) → batch.certificate ≡ Some x
+        → VotesGoAhead g e k f s node h (Constructs view kind batch) → Allowed g f s h (Constructs view kind batch) → HaveLearned h x voter repair ledger tables serving → Enters voter
+        → CoreKeeps g e k f s (record node { voter = voter; acceptance = acceptance; repair = repair; ledger = ledger; tables = tables; serving = serving }) (Constructs view kind batch ∷ h)
+    made_keeps voter repair ledger tables serving x is ahead may learned enters =
         of_made (λ b. VotesGoAhead g e k f s node h (Constructs view kind b) → Allowed g f s h (Constructs view kind b)
-        → CoreKeeps g e k f s (record node { voter = voter; acceptance = acceptance; repair = repair; ledger = ledger; tables = tables }) (Constructs view kind b ∷ h)) batch (Some x) is
+        → CoreKeeps g e k f s (record node { voter = voter; acceptance = acceptance; repair = repair; ledger = ledger; tables = tables; serving = serving }) (Constructs view kind b ∷ h)) batch (Some x) is
         (λ go allowed. record {
           begun = go.keeps.begun;
           allowed = (allowed, go.keeps.allowed);
@@ -199,6 +211,7 @@ module _ {S L D P G C K : Type 0} (g : Ghosts S D P G C) (e : elector.Ghosts L S
           repair = learned.repaired;
           ledger = learned.recorded;
           tables = learned.forgot;
+          serving = learned.dropped;
         }) ahead may
 
     -- and behind one that made none
@@ -215,6 +228,7 @@ module _ {S L D P G C K : Type 0} (g : Ghosts S D P G C) (e : elector.Ghosts L S
           repair = go.keeps.repair;
           ledger = go.keeps.ledger;
           tables = go.keeps.tables;
+          serving = go.keeps.serving;
         }) ahead may
 
   -- where nothing is due of the votes of any view, no construction is to be made

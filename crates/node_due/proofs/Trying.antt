@@ -14,6 +14,7 @@ use Rattle.journal_books.specs.Books.{LeaveBook}
 use Rattle.journal_books.specs.BooksLaws.{book_weaker}
 use Rattle.simplex_state.specs.declared.state.State.{State}
 use Rattle.simplex_state.specs.State as voting
+use Rattle.simplex_resolver.specs.Answers.{first_served}
 use Rattle.simplex_resolver.specs.Keeps as repairing
 use Rattle.simplex_resolver.specs.RepairHistory.{Item}
 use Rattle.node_votes.specs.declared.acceptance.Acceptance.{Acceptance}
@@ -23,7 +24,9 @@ use Rattle.node_record.specs.declared.ledger.Ledger.{Ledger}
 use Rattle.node_record.specs.declared.tables.Tables.{Tables}
 use Rattle.node_record.specs.Ledger as ledgers
 use Rattle.node_record.specs.Ledger.{KeepsRecord}
+use Rattle.node_record.specs.Serving.{KeepsServing, keeps_as}
 use Rattle.node_record.specs.Tables.{KeepsTables}
+use Rattle.simplex_member.specs.declared.served.Served.{Served}
 use Rattle.simplex_member.specs.declared.action.Action.{Action}
 use Rattle.simplex_member.specs.declared.fault.NodeFault.{NodeFault}
 use Rattle.simplex_member.specs.Allowed.{Allowed, AreAllowed}
@@ -33,6 +36,7 @@ use Rattle.simplex_member.specs.Member.{EndsWith, Goes, NoneDue}
 use Rattle.simplex_member.specs.Packet.{Formats}
 use Rattle.simplex_member.specs.Point.{Point, Asks, Latches, Leads, History, is_act}
 use Rattle.simplex_member.specs.Recorded.{kept_of}
+use Rattle.simplex_member.specs.Served.{last_served}
 use Rattle.simplex_member.specs.Setup.{Setup, owner_of}
 use Rattle.node_outbox.specs.Handing.{AddsDeeds, nothing_more}
 use Rattle.node_requests.specs.declared.acted.Acted.{Acted}
@@ -53,7 +57,8 @@ pub if_ok_by : {X E : Type 0} {P Q : X → Type 0} (answer : Result X E) → IfO
 if_ok_by {X} {E} {P} {Q} answer said step = IfOk-weaker answer P Q step said
 
 module _ {S D P G C : Type 0} where
-  -- a point of the node's own records nothing, enters no view, and tells neither the votes of any view nor the repair of anything
+  -- a point of the node's own records nothing, enters no view, tells neither the votes of any view nor the repair of anything, and serves
+  -- nothing
   record IsAside (f : Formats S D P G C) (p : Point S D P G C) : Type 0 where
     own : is_act p ≡ true
     never : may_enter p ≡ false
@@ -61,11 +66,12 @@ module _ {S D P G C : Type 0} where
     begun : (h : History S D P G C) → is_begun (p ∷ h) ≡ is_begun h
     no_record : (views : ℕ) (h : History S D P G C) → kept_of views (p ∷ h) ≡ kept_of views h
     no_repair : (h : History S D P G C) → repair_of f (p ∷ h) ≡ repair_of f h
+    unserved : (s : Setup S D C) (h : History S D P G C) (x : Served) → last_served f s (p ∷ h) x ≡ last_served f s h x
 
   -- so does an ask
   aside : (f : Formats S D P G C) (p : Point S D P G C) → is_ask p ≡ true → IsAside f p
-  aside f (Asks view ask to) is = record { own = refl; never = refl; nothing = λ view. (refl, λ r. refl); begun = λ h. refl; no_record = λ views h. refl; no_repair = λ h. refl }
-  aside f p is = record { own = cc is; never = cc is; nothing = λ view. (cc is, λ r. cc is); begun = λ h. cc is; no_record = λ views h. cc is; no_repair = λ h. cc is }
+  aside f (Asks view ask to) is = record { own = refl; never = refl; nothing = λ view. (refl, λ r. refl); begun = λ h. refl; no_record = λ views h. refl; no_repair = λ h. refl; unserved = λ s h x. refl }
+  aside f p is = record { own = cc is; never = cc is; nothing = λ view. (cc is, λ r. cc is); begun = λ h. cc is; no_record = λ views h. cc is; no_repair = λ h. cc is; unserved = λ s h x. cc is }
 
   fetch_is_ask : (p : Point S D P G C) → is_fetch p ≡ true → is_ask p ≡ true
   fetch_is_ask (Asks view ask to) is = refl
@@ -79,6 +85,7 @@ module _ {S L D P G C K : Type 0} (g : Ghosts S D P G C) (e : elector.Ghosts L S
     votes : accepting.Keeps g f.same s node.acceptance h
     repair : repairing.Keeps s.voter.length node.repair (repair_of f h)
     ledger : KeepsRecord k f.artifact (owner_of s) node.ledger (kept_of s.voter.length h)
+    serving : KeepsServing s.repair.answers (first_served s.voter.length (repair_of f h)) (λ x. last_served f s h x) node.serving
 
   -- behind asks it stands where it stood
   stands_aside : (node : Core S L D K P G C) (points : List (Point S D P G C)) (h end : History S D P G C)
@@ -92,6 +99,8 @@ module _ {S L D P G C K : Type 0} (g : Ghosts S D P G C) (e : elector.Ghosts L S
         votes = quiet s node.acceptance h p beside.nothing beside.never stands.votes;
         repair = subst (λ (items : List Item). repairing.Keeps s.voter.length node.repair items) (sym (beside.no_repair h)) stands.repair;
         ledger = subst (λ (xs : List (Artifact S D P G C)). KeepsRecord k f.artifact (owner_of s) node.ledger xs) (sym (beside.no_record s.voter.length h)) stands.ledger;
+        serving = keeps_as s.repair.answers (first_served s.voter.length (repair_of f h)) (first_served s.voter.length (repair_of f (p ∷ h))) (λ x. last_served f s h x) (λ x. last_served f s (p ∷ h) x) node.serving
+            (ap (first_served s.voter.length) (beside.no_repair h)) (beside.unserved s h) stands.serving;
       })
 
   -- while nothing is asked of its disks, a crash leaves the record that a ledger holds
@@ -146,7 +155,7 @@ module _ {S L D P G C K : Type 0} {g : Ghosts S D P G C} {e : elector.Ghosts L S
       → QuietStays g f.same → HasAsked g e f s voter tables h points end before after → HasActed g e k f s (record node { voter = voter; tables = tables }) h points end before after
   has_acted voter tables points end before after quiet asked =
       let stands = stands_aside g e k f s node points h end quiet asked.are_asks asked.goes
-      (record { begun = kept.begun; allowed = kept.allowed; votes = kept.votes; repair = kept.repair; ledger = kept.ledger }) in
+      (record { begun = kept.begun; allowed = kept.allowed; votes = kept.votes; repair = kept.repair; ledger = kept.ledger; serving = kept.serving }) in
       record {
         own = All-weaker (λ (p : Point S D P G C). is_ask p ≡ true) (λ (p : Point S D P G C). is_act p ≡ true) (λ p is. (aside f p is).own) points asked.are_asks;
         goes = asked.goes;
@@ -159,6 +168,7 @@ module _ {S L D P G C K : Type 0} {g : Ghosts S D P G C} {e : elector.Ghosts L S
           repair = stands.repair;
           ledger = stands.ledger;
           tables = asked.tables_are;
+          serving = stands.serving;
         };
         acts = asked.acts;
       }
@@ -262,6 +272,7 @@ module _ {S L D P G C K : Type 0} {g : Ghosts S D P G C} {e : elector.Ghosts L S
         repair = kept.repair;
         ledger = kept.ledger;
         tables = kept.tables;
+        serving = kept.serving;
       };
       acts = nothing_more f actions;
     };
@@ -304,6 +315,7 @@ module _ {S L D P G C K : Type 0} {g : Ghosts S D P G C} {e : elector.Ghosts L S
             repair = kept.repair;
             ledger = kept.ledger;
             tables = kept.tables;
+            serving = kept.serving;
           };
           last = last;
           wakes = told.1;

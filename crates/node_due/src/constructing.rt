@@ -36,6 +36,7 @@ use simplex_member::{
     Action, NodeFault, Speaks, packets_are_read_back, what_is_kept_stands_for_all,
     what_is_made_may_be_recorded,
 };
+use simplex_resolver::what_is_served_is_of_late_views;
 use types_core::{Digest, Proposal, Scheme, View};
 use types_terms::Elector;
 
@@ -220,6 +221,7 @@ fn learn_made<S: Scheme<D> + Drop, L: Elector<S, D>, D: Digest, K: Disk>(
     what_is_not_recorded_is_unknown::<S, D>();
     what_is_kept_stands_for_all::<S, D>();
     a_ledger_at_rest_leaves_its_record::<S, D, K>();
+    what_is_served_is_of_late_views();
     let alloc = core.settings.alloc;
     let now = core.tables.moment();
     let Ok(artifact) = tell_voter(alloc, now, certificate, &mut core.voter) else {
@@ -238,5 +240,6 @@ fn learn_made<S: Scheme<D> + Drop, L: Elector<S, D>, D: Digest, K: Disk>(
         Err(fault) => return Err(fault),
     }
     core.tables.forget(core.voter.last_finalized());
+    core.serving.drop_before(core.repair.first_served());
     Ok(())
 }

@@ -53,7 +53,7 @@ module _ {S L D P G C K : Type 0} (g : Ghosts S D P G C) (e : elector.Ghosts L S
       → voting.Keeps g e s.voter voter (voter_of s (Built number handoff context payload took ∷ h)) → KeepsTables (finalized_of s h) tables (Built number handoff context payload took ∷ h)
       → CoreKeeps g e k f s (record node { voter = voter; tables = tables }) (Built number handoff context payload took ∷ h)
   behind_build node voter tables h number handoff context payload took quiet keeps stands counts voter_keeps ended =
-      stands_behind g e k f s node voter tables h (Built number handoff context payload took) quiet (λ view. (refl, λ r. refl)) refl keeps.begun refl refl keeps
+      stands_behind g e k f s node voter tables h (Built number handoff context payload took) quiet (λ view. (refl, λ r. refl)) refl keeps.begun refl refl (λ x. refl) keeps
       (record { order = keeps.begun; due = (stands, counts); fits = tt; readable = tt }) voter_keeps
       (subst (λ (low : ℕ). KeepsTables low tables (Built number handoff context payload took ∷ h)) (sym (build_finalizes_nothing h number handoff context payload took)) ended)
 
@@ -91,7 +91,7 @@ module _ {S L D P G C K : Type 0} (g : Ghosts S D P G C) (e : elector.Ghosts L S
       → voting.Keeps g e s.voter voter (voter_of s (Checked number view answer outcome ∷ h)) → KeepsTables (finalized_of s h) tables (Checked number view answer outcome ∷ h)
       → CoreKeeps g e k f s (record node { voter = voter; tables = tables }) (Checked number view answer outcome ∷ h)
   behind_answer node voter tables h number view answer outcome quiet keeps stands comes voter_keeps ended =
-      stands_behind g e k f s node voter tables h (Checked number view answer outcome) quiet (λ u. (refl, λ r. refl)) refl keeps.begun refl refl keeps
+      stands_behind g e k f s node voter tables h (Checked number view answer outcome) quiet (λ u. (refl, λ r. refl)) refl keeps.begun refl refl (λ x. refl) keeps
       (record { order = keeps.begun; due = (stands, comes); fits = tt; readable = tt }) voter_keeps
       (subst (λ (low : ℕ). KeepsTables low tables (Checked number view answer outcome ∷ h)) (sym (answer_finalizes_nothing _ view answer outcome (voter_of s h))) ended)
 

@@ -14,16 +14,20 @@ use Rattle.batcher_verifier.specs.History.{takes}
 use Rattle.simplex_batcher.specs.Admission.{IsBlocked, report_of}
 use Rattle.node_votes.specs.declared.acceptance.Acceptance.{Acceptance}
 use Rattle.node_votes.specs.KeepsVotes as accepting
+use Rattle.node_record.specs.declared.serving.Serving.{Serving}
 use Rattle.node_record.specs.declared.tables.Tables.{Tables}
+use Rattle.node_record.specs.Serving.{KeepsServing}
 use Rattle.node_record.specs.Tables.{KeepsTables}
+use Rattle.simplex_resolver.specs.Answers.{first_served}
 use Rattle.simplex_member.specs.declared.action.Action.{Action}
 use Rattle.simplex_member.specs.declared.refusal.Refusal.TheVariants as refusal
 use Rattle.simplex_member.specs.Allowed.{Allowed}
 use Rattle.simplex_member.specs.Deeds.{Blocks, Reports}
 use Rattle.simplex_member.specs.First.{IsFirst}
-use Rattle.simplex_member.specs.Layers.{finalized_of, votes_of, votes_setup}
+use Rattle.simplex_member.specs.Layers.{finalized_of, repair_of, votes_of, votes_setup}
 use Rattle.simplex_member.specs.Packet.{Formats}
 use Rattle.simplex_member.specs.Point.{History, Heard, Wanted}
+use Rattle.simplex_member.specs.Served.{last_served}
 use Rattle.simplex_member.specs.Setup.{Setup}
 use Rattle.node_core.specs.declared.node_state.Core.{Core}
 use Rattle.node_outbox.specs.Handing.{AddsDeeds}
@@ -113,12 +117,14 @@ module _ {S L D P G C K : Type 0} {g : Ghosts S D P G C} {e : elector.Ghosts L S
       repair = kept.repair;
       ledger = kept.ledger;
       tables = noted;
+      serving = kept.serving;
     }
 
   -- an ask of another member is heeded
-  pub wanted-keeps : (sender view : ℕ) → Allowed g f s h (Wanted sender view) → accepting.Keeps g f.same s node.acceptance (Wanted sender view ∷ h) → KeepsTables (finalized_of s h) node.tables (Wanted sender view ∷ h)
-      → CoreKeeps g e k f s node (Wanted sender view ∷ h)
-  wanted-keeps sender view allowed accepted remembered = record {
+  pub wanted-keeps : (serving : Serving) (sender view : ℕ) → Allowed g f s h (Wanted sender view) → accepting.Keeps g f.same s node.acceptance (Wanted sender view ∷ h) → KeepsTables (finalized_of s h) node.tables (Wanted sender view ∷ h)
+      → KeepsServing s.repair.answers (first_served s.voter.length (repair_of f h)) (λ x. last_served f s (Wanted sender view ∷ h) x) serving
+      → CoreKeeps g e k f s (record node { serving = serving }) (Wanted sender view ∷ h)
+  wanted-keeps serving sender view allowed accepted remembered served = record {
     begun = kept.begun;
     allowed = (allowed, kept.allowed);
     set_up = kept.set_up;
@@ -127,4 +133,5 @@ module _ {S L D P G C K : Type 0} {g : Ghosts S D P G C} {e : elector.Ghosts L S
     repair = kept.repair;
     ledger = kept.ledger;
     tables = remembered;
+    serving = served;
   }

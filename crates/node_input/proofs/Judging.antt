@@ -20,12 +20,14 @@ use Rattle.simplex_state.specs.State as voting
 use Rattle.node_votes.specs.declared.acceptance.Acceptance.{Acceptance}
 use Rattle.node_votes.specs.KeepsVotes as accepting
 use Rattle.simplex_resolver.specs.declared.state.State as resolving
+use Rattle.simplex_resolver.specs.Answers.{first_served}
 use Rattle.simplex_resolver.specs.Keeps as repairing
 use Rattle.simplex_resolver.specs.RepairHistory as repair
-use Rattle.simplex_resolver.specs.RepairHistory.{Item}
+use Rattle.simplex_resolver.specs.RepairHistory.{Item, finalizes}
 use Rattle.journal_single.specs.declared.disk.Disk as disk
 use Rattle.node_record.specs.declared.ledger.Ledger.{Ledger}
 use Rattle.node_record.specs.Ledger.{KeepsRecord}
+use Rattle.node_record.specs.Serving.{keeps_as}
 use Rattle.node_record.specs.Tables.{KeepsTables}
 use Rattle.simplex_member.specs.Allowed.{Allowed}
 use Rattle.simplex_member.specs.Asked.{IsAwaited}
@@ -35,6 +37,7 @@ use Rattle.simplex_member.specs.Layers.{finalized_of, is_begun, notarization_byt
 use Rattle.simplex_member.specs.Packet.{Formats, IsRecordable}
 use Rattle.simplex_member.specs.Point.{History, Judged}
 use Rattle.simplex_member.specs.Recorded.{kept_of, notarization_in, record_of}
+use Rattle.simplex_member.specs.Served.{last_served}
 use Rattle.simplex_member.specs.Setup.{Setup, owner_of}
 use Rattle.node_core.specs.declared.node_state.Core.{Core}
 use Rattle.node_core.specs.Keeps.{CoreKeeps}
@@ -71,8 +74,9 @@ module _ {S L D P G C K : Type 0} (g : Ghosts S D P G C) (e : elector.Ghosts L S
       → voting.Keeps g e s.voter voter (voter_of s (Judged r ok ∷ h)) → accepting.Keeps g f.same s acceptance (Judged r ok ∷ h)
       → repairing.Keeps s.voter.length state (repair.Judged c.proposal.round.view (f.certificate (as_notarization c)) ok ∷ repair_of f h)
       → KeepsTables (finalized_of s h) node.tables (Judged r ok ∷ h)
+      → ((x : Item) → finalizes x ≡ 0 → first_served s.voter.length (x ∷ repair_of f h) ≡ first_served s.voter.length (repair_of f h))
       → CoreKeeps g e k f s (record node { voter = voter; acceptance = acceptance; repair = state }) (Judged r ok ∷ h)
-  behind_verdict node voter acceptance state h r ok c recorded may found at voter_keeps votes_keep repair_keeps tables_keep = record {
+  behind_verdict node voter acceptance state h r ok c recorded may found at voter_keeps votes_keep repair_keeps tables_keep stays = record {
     begun = recorded.keeps.begun;
     allowed = (may, recorded.keeps.allowed);
     set_up = recorded.keeps.set_up;
@@ -81,6 +85,8 @@ module _ {S L D P G C K : Type 0} (g : Ghosts S D P G C) (e : elector.Ghosts L S
     repair = subst (λ (x : Item). repairing.Keeps s.voter.length state (x ∷ repair_of f h)) (item_is g f s h r c ok found at) repair_keeps;
     ledger = recorded.ahead;
     tables = tables_keep;
+    serving = keeps_as s.repair.answers (first_served s.voter.length (repair_of f h)) (first_served s.voter.length (repair_of f (Judged r ok ∷ h))) (λ x. last_served f s h x) (λ x. last_served f s (Judged r ok ∷ h) x) node.serving
+        (stays (repair.Judged r.view (notarization_bytes f h r.view) ok) refl) (λ x. refl) recorded.keeps.serving;
   }
 
   -- once it is recorded the record is a point ahead

@@ -5,4 +5,5 @@ mod Judging
 mod Tests
 mod Refusals
 mod Heeding
+mod Answered
 mod Replying

@@ -16,6 +16,7 @@ use node_core::{Core, tell_voter, tell_votes, update_repair, what_is_not_recorde
 use node_inbox::record;
 use node_record::a_ledger_at_rest_leaves_its_record;
 use simplex_member::{Action, NodeFault, Speaks, what_is_kept_stands_for_all};
+use simplex_resolver::what_is_served_is_of_late_views;
 use types_core::{Digest, Scheme};
 use types_terms::Elector;
 
@@ -79,6 +80,7 @@ fn learn<S: Scheme<D> + Drop, L: Elector<S, D>, D: Digest, K: Disk>(
     what_is_not_recorded_is_unknown::<S, D>();
     what_is_kept_stands_for_all::<S, D>();
     a_ledger_at_rest_leaves_its_record::<S, D, K>();
+    what_is_served_is_of_late_views();
     let alloc = core.settings.alloc;
     let now = core.tables.moment();
     let Ok(artifact) = tell_voter(alloc, now, certificate, &mut core.voter) else {
@@ -97,5 +99,6 @@ fn learn<S: Scheme<D> + Drop, L: Elector<S, D>, D: Digest, K: Disk>(
         Err(fault) => return Err(fault),
     }
     core.tables.forget(core.voter.last_finalized());
+    core.serving.drop_before(core.repair.first_served());
     Ok(())
 }

@@ -32,7 +32,7 @@ use simplex_member::{
     Action, NodeFault, Speaks, awaited_verdicts_may_be_taken, packets_are_read_back,
     what_is_kept_stands_for_all,
 };
-use simplex_resolver::State as Repair;
+use simplex_resolver::{State as Repair, what_is_served_is_of_late_views};
 use std::alloc::Global;
 use types_core::{Digest, Round, Scheme, View};
 use types_terms::Elector;
@@ -101,6 +101,7 @@ fn learn_verdict<S: Scheme<D> + Drop, L: Elector<S, D>, D: Digest, K: Disk>(
     awaited_verdicts_may_be_taken::<S, D>();
     silent_points_leave_votes::<S, D>();
     quiet_points_leave_the_tables::<S, D>();
+    what_is_served_is_of_late_views();
     let alloc = core.settings.alloc;
     let now = core.tables.moment();
     let was = core.voter.current_view();

@@ -13,3 +13,4 @@ pub mod Built
 pub mod Rewriting
 pub mod Appended
 pub mod Pending
+pub mod Noted

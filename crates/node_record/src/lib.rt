@@ -1,4 +1,5 @@
-//! What a member has recorded, on its disks and at hand, and what it remembers of what it asked for.
+//! What a member has recorded, on its disks and at hand, and what it remembers of what it asked for and
+//! served.
 #![tactic(auto)]
 
 mod founding;
@@ -6,6 +7,7 @@ mod laws;
 mod ledger;
 mod places;
 mod recorded;
+mod serving;
 mod tables;
 
 pub use laws::{
@@ -14,4 +16,5 @@ pub use laws::{
 };
 pub use ledger::Ledger;
 pub use recorded::Recorded;
+pub use serving::Serving;
 pub use tables::{Building, Tables};

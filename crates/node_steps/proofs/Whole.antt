@@ -31,7 +31,7 @@ use Rattle.node_steps.specs.Opening.{AreOpenedOn, IsOpen, MayBeLeftOpen, MayGoTh
 module _ {S L D P G C K : Type 0} (g : Ghosts S D P G C) (e : elector.Ghosts L S D P G C) (k : disk.Ghosts K) (f : Formats S D P G C) where
   -- once the record was gone through, the history and the ledger agree: the node of both stands there
   pub is-open : (s : Setup S D C) (Readable : Artifact S D P G C → Type 0) (brought : Option (Finalization S D P G C)) (on : Disks K) (now : ℕ) (settings : Settings S) (layers : Layers S L D P G C) (ledger : Ledger S D K P G C) (node : Node S L D K P G C) (found founded : List (Artifact S D P G C)) (actions : List (Action S D P G C))
-      → node ≡ record { core = record { settings = settings; voter = layers.voter; acceptance = layers.acceptance; repair = layers.repair; ledger = ledger; tables = layers.tables }; failed = false }
+      → node ≡ record { core = record { settings = settings; voter = layers.voter; acceptance = layers.acceptance; repair = layers.repair; ledger = ledger; tables = layers.tables; serving = layers.serving }; failed = false }
       → IsSetUp s settings → HasBegun g e f s now (found ++ founded) layers actions → AreOpenedOn g k f s Readable brought on found founded → KeepsRecord k f.artifact (owner_of s) ledger (found ++ founded) → IsOpen g e k f s Readable brought on now node actions
   is-open s Readable brought on now settings layers ledger node found founded actions is set_up begun are keeps = record {
     found = found;
@@ -50,6 +50,7 @@ module _ {S L D P G C K : Type 0} (g : Ghosts S D P G C) (e : elector.Ghosts L S
         repair = begun.stand.repair;
         ledger = subst (λ (xs : List (Artifact S D P G C)). KeepsRecord k f.artifact (owner_of s) ledger xs) (sym begun.kept) keeps;
         tables = begun.stand.tables (finalized_of s begun.end);
+        serving = begun.stand.serving _;
       };
     });
   }

@@ -306,13 +306,14 @@ fn node_of<S: Scheme<D> + Drop, L: Elector<S, D>, D: Digest, K: Disk>(
     ledger: Ledger<S, D, K>,
 ) -> Node<S, L, D, K>
     ensures { result ≡ record
-        { core = record { settings = settings; voter = layers.voter; acceptance = layers.acceptance; repair = layers.repair; ledger = ledger; tables = layers.tables }; failed = false } }
+        { core = record { settings = settings; voter = layers.voter; acceptance = layers.acceptance; repair = layers.repair; ledger = ledger; tables = layers.tables; serving = layers.serving }; failed = false } }
 {
     let Layers {
         voter,
         acceptance,
         repair,
         tables,
+        serving,
     } = layers;
     let core = Core {
         settings,
@@ -321,6 +322,7 @@ fn node_of<S: Scheme<D> + Drop, L: Elector<S, D>, D: Digest, K: Disk>(
         repair,
         ledger,
         tables,
+        serving,
     };
     Node {
         core,

@@ -121,7 +121,7 @@ impl Repair {
         let view = words.view()?;
         words.end()?;
         match self.state.produce(view) {
-            Some(bytes) => say.sum_of(bytes),
+            Some((_, bytes)) => say.sum_of(bytes),
             None => say.none(),
         }
     }

@@ -18,13 +18,14 @@ use Rattle.batcher_admission.specs.Evidence.{as_report}
 use Rattle.voter_history.specs.Past.{forwardable_proposal}
 use Rattle.voter_history.specs.History.{seen}
 use Rattle.voter_history.specs.Leaders.{leader}
-use Rattle.simplex_resolver.specs.Answers.{produced}
+use Rattle.simplex_resolver.specs.Answers.{produced, source}
 use Rattle.simplex_member.specs.Deeds.{Deed, RelaysTo, Sends, Serves, Blocks, Builds, Verifies, Certifies, Relays, Finalizes, Reports, built_deeds, certificate_deeds, deeds_of, entered_deeds, entry_deeds, final_deeds, relay_deeds, own_way, recipients, report_deeds, silent}
 use Rattle.simplex_member.specs.Laws.{IsDeedOf}
 use Rattle.simplex_member.specs.Layers.{current_of, finalized_of, repair_of, voter_of}
 use Rattle.simplex_member.specs.Packet.{Formats, of_vote, of_certificate, of_ask}
 use Rattle.simplex_member.specs.Point.{Point, Found, Began, Heard, Came, Wanted, Built, Judged, Constructs, AsksBuild, AsksVerify, AsksCertify, Asks, Votes, Repeats, History}
 use Rattle.simplex_member.specs.Recorded.{finalization_in, record_of, recorded_by, reported}
+use Rattle.simplex_member.specs.Served.{may_serve}
 use Rattle.simplex_member.specs.Setup.{Setup}
 use Rattle.simplex_member.proofs.Lists.{Contains-mapped}
 
@@ -100,8 +101,9 @@ module _ {S D P G C : Type 0} (g : Ghosts S D P G C) (f : Formats S D P G C) (s 
   deeds-are h Began = covers-map (λ d. IsDeedOf g f s h Began d) (λ (c : Finalization S D P G C). Finalizes c.proposal) (option_to_list (finalization_in (record_of h) (finalized_of s h))) (λ c here. tt)
   deeds-are h (Heard v) = covers-cons (λ d. IsDeedOf g f s h (Heard v) d) (Reports (as_report v)) [] (inr (v, refl, refl)) (covers-nil (λ d. IsDeedOf g f s h (Heard v) d))
   deeds-are h (Came c) = certificate-are g f s h (Came c) c refl
-  deeds-are h (Wanted member view) = covers-map (λ d. IsDeedOf g f s h (Wanted member view) d) (Serves member) (option_to_list (produced s.voter.length (repair_of f h) view))
-      (λ bytes here. (view, refl, option-there (produced s.voter.length (repair_of f h) view) bytes here))
+  deeds-are h (Wanted member view) = covers-if (λ d. IsDeedOf g f s h (Wanted member view) d) (may_serve f s h member (source s.voter.length (repair_of f h) view)) (map (Serves member) (option_to_list (produced s.voter.length (repair_of f h) view)))
+      (covers-map (λ d. IsDeedOf g f s h (Wanted member view) d) (Serves member) (option_to_list (produced s.voter.length (repair_of f h) view))
+      (λ bytes here. (view, refl, option-there (produced s.voter.length (repair_of f h) view) bytes here)))
   deeds-are h (Built number handoff context payload took) = built-are g f s h (Built number handoff context payload took) context.round handoff payload took
   deeds-are h (Judged r ok) = covers-append (λ d. IsDeedOf g f s h (Judged r ok) d) (report_deeds g f s h (artifact.Certification r ok)) (entered_deeds g f s h (Judged r ok))
       (reports-are g f s h (Judged r ok) (artifact.Certification r ok) refl) (entered-are g f s h (Judged r ok))

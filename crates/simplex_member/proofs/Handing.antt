@@ -19,12 +19,13 @@ use Rattle.batcher_admission.specs.Evidence.{as_report}
 use Rattle.voter_history.specs.Past.{forwardable_proposal}
 use Rattle.voter_history.specs.History.{seen}
 use Rattle.voter_history.specs.Leaders.{leader}
-use Rattle.simplex_resolver.specs.Answers.{produced}
+use Rattle.simplex_resolver.specs.Answers.{produced, source}
 use Rattle.simplex_member.specs.Deeds.{Deed, Way, RelaysTo, Sends, Serves, Blocks, Builds, Verifies, Certifies, Relays, Finalizes, Reports, built_deeds, certificate_deeds, deeds_of, entered_deeds, entry_deeds, final_deeds, relay_deeds, own_way, recipients, report_deeds, silent}
 use Rattle.simplex_member.specs.Layers.{current_of, finalized_of, repair_of, voter_of}
 use Rattle.simplex_member.specs.Packet.{Formats, of_vote, of_certificate, of_ask}
 use Rattle.simplex_member.specs.Point.{Point, Found, Began, Heard, Came, Wanted, Built, Judged, Constructs, AsksBuild, AsksVerify, AsksCertify, Asks, Votes, Repeats, History}
 use Rattle.simplex_member.specs.Recorded.{finalization_in, record_of, reported}
+use Rattle.simplex_member.specs.Served.{may_serve}
 use Rattle.simplex_member.specs.Setup.{Setup}
 use Rattle.simplex_member.proofs.Lists.{Lacks, lacks-absurd, lacks-append, lacks-cons, lacks-each, lacks-if, lacks-map, lacks-nil, lacks-one}
 
@@ -99,7 +100,8 @@ module _ {S D P G C Y : Type 0} (f : Deed S D P G C → Option Y) (passes : Pass
     lacks-others h Began = lacks-map f (λ (c : Finalization S D P G C). Finalizes c.proposal) (option_to_list (finalization_in (record_of h) (finalized_of s h))) (λ c. passes.finalizes c.proposal)
     lacks-others h (Heard v) = lacks-one f (Reports (as_report v)) (passes.reports (as_report v))
     lacks-others h (Came c) = lacks-certificate h (Came c) c
-    lacks-others h (Wanted member view) = lacks-map f (Serves member) (option_to_list (produced s.voter.length (repair_of m h) view)) (λ bytes. passes.serves member bytes)
+    lacks-others h (Wanted member view) = lacks-if f (may_serve m s h member (source s.voter.length (repair_of m h) view)) (map (Serves member) (option_to_list (produced s.voter.length (repair_of m h) view)))
+        (lacks-map f (Serves member) (option_to_list (produced s.voter.length (repair_of m h) view)) (λ bytes. passes.serves member bytes))
     lacks-others h (Built number handoff context payload took) = lacks-built context.round handoff payload took
     lacks-others h (Judged r ok) = lacks-append f (report_deeds g m s h (artifact.Certification r ok)) (entered_deeds g m s h (Judged r ok)) (lacks-reports h (artifact.Certification r ok)) (lacks-entered h (Judged r ok))
     lacks-others h (Constructs view kind batch) = lacks-each f (certificate_deeds g m s h (Constructs view kind batch)) batch.certificate (lacks-certificate h (Constructs view kind batch))

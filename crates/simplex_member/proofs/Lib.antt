@@ -43,6 +43,7 @@ mod Waiting
 mod Lone
 mod Spellings
 mod Serving
+mod Served
 mod Asking
 mod Blameless
 mod Awaiting

@@ -21,7 +21,7 @@ use Rattle.voter_history.specs.Past.{forwardable_proposal}
 use Rattle.voter_history.specs.History.{seen}
 use Rattle.voter_history.specs.Leaders.{leader}
 use Rattle.simplex_batcher.specs.Queries.{missing_voters}
-use Rattle.simplex_resolver.specs.Answers.{produced}
+use Rattle.simplex_resolver.specs.Answers.{produced, source}
 use Rattle.simplex_member.specs.declared.action.Action.{Action}
 use Rattle.simplex_member.specs.declared.action.Action.TheVariants as action
 use Rattle.types_terms.specs.declared.plan.Plan.{Plan}
@@ -31,6 +31,7 @@ use Rattle.simplex_member.specs.Layers.{current_of, finalized_of, repair_of, vot
 use Rattle.simplex_member.specs.Packet.{Formats, Packet, of_vote, of_certificate, of_ask, packet_channel}
 use Rattle.simplex_member.specs.Point.{Point, Found, Began, Heard, Came, Wanted, Built, Judged, Constructs, AsksBuild, AsksVerify, AsksCertify, Asks, Votes, Repeats, History}
 use Rattle.simplex_member.specs.Recorded.{finalization_in, record_of, reported}
+use Rattle.simplex_member.specs.Served.{may_serve}
 use Rattle.simplex_member.specs.Setup.{Setup}
 
 -- to whom a payload goes: as the application will, for a handoff; to all; or to these
@@ -136,9 +137,11 @@ module _ {S D P G C : Type 0} where
     certificate_deeds h p c =
         report_deeds h (certificate_artifact c) ++ (Sends None (of_certificate c) ∷ (final_deeds (finalized_of s h) c ++ entered_deeds h p))
 
-    -- the best certificate for a view, where there is one
+    -- the best certificate for a view, where there is one, and it didn't go to the member too short a time ago
     abbrev pub served : History S D P G C → ℕ → ℕ → List (Deed S D P G C)
-    served h member view = map (Serves member) (option_to_list (produced s.voter.length (repair_of f h) view))
+    served h member view =
+        if may_serve f s h member (source s.voter.length (repair_of f h) view)
+        then map (Serves member) (option_to_list (produced s.voter.length (repair_of f h) view)) else []
 
     -- the highest recorded finalization
     abbrev pub found_final : History S D P G C → List (Deed S D P G C)

@@ -6,6 +6,7 @@ pub mod Point
 pub mod Recorded
 pub mod Layers
 pub mod Asked
+pub mod Served
 pub mod Deeds
 pub mod Refusals
 pub mod Allowed
@@ -16,3 +17,4 @@ pub mod Laws
 pub mod Floors
 pub mod Sent
 pub mod Repairing
+pub mod Answering

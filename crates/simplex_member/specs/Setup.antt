@@ -28,7 +28,7 @@ pub record Setup (S D C : Type 0) : Type 0 where
   pub forward : ForwardPolicy
   -- votes are kept in full for good
   pub tracks : Bool
-  -- how it asks for what it lacks
+  -- how it asks for what it lacks, and how often it answers others
   pub repair : RepairPolicy
 
 -- for how long a leader may be silent

@@ -2,6 +2,7 @@
 #![tactic(auto)]
 
 mod action;
+mod answering;
 mod asked;
 mod event;
 mod fault;
@@ -9,9 +10,14 @@ mod laws;
 mod refusal;
 mod repairing;
 mod sent;
+mod served;
 mod speaks;
 
 pub use action::{Action, Reply};
+pub use answering::{
+    asks_of_others_change_nothing_else, each_ask_is_answered, served_once_in_a_time,
+    who_asks_later_is_served,
+};
 pub use asked::Asked;
 pub use event::{Channel, Event};
 pub use fault::{IoFault, NodeFault, OpenFault, SetupFault};
@@ -37,4 +43,5 @@ pub use repairing::{
     nothing_else_waits_for_asks, unsettled_asks_go_again,
 };
 pub use sent::{none_stays_unsent, sent_votes_were_due};
+pub use served::Served;
 pub use speaks::Speaks;

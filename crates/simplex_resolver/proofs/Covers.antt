@@ -12,7 +12,7 @@ use Rattle.std.proofs.lemmas.Map.Keys.{ge_from_not_lt, le_from_not_gt}
 use Rattle.types_core.specs.Positions.{term_start, term_end}
 use Rattle.simplex_resolver.specs.declared.held.Held.{Held}
 use Rattle.simplex_resolver.specs.RepairHistory.{Item, Nullified, Notarized, Finalized, Judged, Replayed, covered, covers, finalized, floor, nullification}
-use Rattle.simplex_resolver.specs.Answers.{highest_nullification, covering}
+use Rattle.simplex_resolver.specs.Answers.{covering, covering_view, highest_nullification, highest_nullified}
 use Rattle.simplex_resolver.specs.Keeps.{Holds, kept_nullification}
 use Rattle.simplex_resolver.proofs.Choices.{bool_cases, or_cases, or_right, option_cases, option_or-some, option_or-later, option_or-none, option_or-cases, if_same, if_other, nat_lt-yes, nat_le-yes, nat_le-no, not_gt_from_le}
 use Rattle.simplex_resolver.proofs.TermStarts.{start-end, same_end, term_start-ge}
@@ -88,34 +88,36 @@ finalized-floor (Replayed ∷ h) = let i = finalized-floor h in grind (arith, na
 
 module _ (h : List Item) (first : ℕ) where
   -- no nullification is the highest where there is none
-  pub highest-none : (v : ℕ) → ((u : ℕ) → first ≤ u → u ≤ v → nullification h u ≡ None) → highest_nullification h first v ≡ None
+  pub highest-none : (v : ℕ) → ((u : ℕ) → first ≤ u → u ≤ v → nullification h u ≡ None) → (highest_nullification h first v ≡ None) × (highest_nullified h first v ≡ None)
   highest-none zero none = elim (cases_lt 0 first) [
-    | inl past ↦ rw (nat_le-no first 0 past) refl
-    | inr le ↦ rw (nat_le-yes first 0 le) (none 0 le (omega arith))
+    | inl past ↦ (rw (nat_le-no first 0 past) refl, rw (nat_le-no first 0 past) refl)
+    | inr le ↦ (rw (nat_le-yes first 0 le) (none 0 le (omega arith)), rw (nat_le-yes first 0 le, none 0 le (omega arith)) refl)
   ]
   highest-none (suc v) none = elim (cases_lt (suc v) first) [
-    | inl past ↦ rw (nat_le-no first (suc v) past) refl
+    | inl past ↦ (rw (nat_le-no first (suc v) past) refl, rw (nat_le-no first (suc v) past) refl)
     | inr le ↦
         let here : nullification h (suc v) ≡ None = none (suc v) le (omega arith) in
         let below = highest-none v (λ u from to. none u from (omega (arith, to))) in
-        rw (nat_le-yes first (suc v) le, here) below
+        (rw (nat_le-yes first (suc v) le, here) below.0, rw (nat_le-yes first (suc v) le, here) below.1)
   ]
 
   -- the highest is one behind which there is none
-  pub highest-is : (v u : ℕ) (bytes : List ℕ) → first ≤ u → u ≤ v → nullification h u ≡ Some bytes → ((q : ℕ) → u < q → q ≤ v → nullification h q ≡ None) → highest_nullification h first v ≡ Some bytes
+  pub highest-is : (v u : ℕ) (bytes : List ℕ) → first ≤ u → u ≤ v → nullification h u ≡ Some bytes → ((q : ℕ) → u < q → q ≤ v → nullification h q ≡ None)
+      → (highest_nullification h first v ≡ Some bytes) × (highest_nullified h first v ≡ Some u)
   highest-is zero u bytes from to some later =
       let is : u ≡ 0 = omega (arith, to) in
-      rw (nat_le-yes first 0 (rw is at from)) (rw is at some)
+      let here : nullification h 0 ≡ Some bytes = rw is at some in
+      (rw (nat_le-yes first 0 (rw is at from)) here, rw (nat_le-yes first 0 (rw is at from), here, is) refl)
   highest-is (suc v) u bytes from to some later = elim (cases_lt u (suc v)) [
     | inl below ↦
         let low : first ≤ suc v = omega (arith, from, to) in
         let here : nullification h (suc v) ≡ None = later (suc v) below (omega arith) in
         let rest = highest-is v u bytes from (omega (arith, below)) some (λ q behind up. later q behind (omega (arith, up))) in
-        rw (nat_le-yes first (suc v) low, here) rest
+        (rw (nat_le-yes first (suc v) low, here) rest.0, rw (nat_le-yes first (suc v) low, here) rest.1)
     | inr past ↦
         let is : u ≡ suc v = omega (arith, past, to) in
         let here : nullification h (suc v) ≡ Some bytes = rw is at some in
-        rw (nat_le-yes first (suc v) (rw is at from), here) refl
+        (rw (nat_le-yes first (suc v) (rw is at from), here) refl, rw (nat_le-yes first (suc v) (rw is at from), here, is) refl)
   ]
 
   -- there is a highest where there is one
@@ -201,21 +203,24 @@ module _ (views : ℕ) (held : Held) (h : List Item) (k : Holds views held h) (v
       cover-covered views h v v (record { from = from; to = omega arith; there = rw here refl })
 
   module _ (r : List (ℕ × Vec ℕ Global)) (range : IsRangeOf nat_cmp (Included (term_start views v)) (Included v) held.nullifications r) where
-    pub covering-none : r ≡ [] → covering views h v ≡ None
-    covering-none e = rw (nat_lt-yes (finalized h) v above) (highest-none h (term_start views v) v (λ u from to.
-        let none : get nat_cmp held.nullifications u ≡ None = range.5 e u (not_gt_from_le _ _ from, not_gt_from_le _ _ to) in
-        sym (kept u from) ∙ ap (option_map (λ (bytes : Vec ℕ Global). bytes.items)) none))
+    pub covering-none : r ≡ [] → (covering views h v ≡ None) × (covering_view views h v ≡ None)
+    covering-none e =
+        let none = highest-none h (term_start views v) v (λ u from to.
+        let gone : get nat_cmp held.nullifications u ≡ None = range.5 e u (not_gt_from_le _ _ from, not_gt_from_le _ _ to) in
+        sym (kept u from) ∙ ap (option_map (λ (bytes : Vec ℕ Global). bytes.items)) gone) in
+        (rw (nat_lt-yes (finalized h) v above) none.0, rw (nat_lt-yes (finalized h) v above) none.1)
 
-    pub covering-is : (e : ℕ × Vec ℕ Global) (t : List (ℕ × Vec ℕ Global)) → r ≡ t ++ e ∷ [] → covering views h v ≡ Some e.1.items
+    pub covering-is : (e : ℕ × Vec ℕ Global) (t : List (ℕ × Vec ℕ Global)) → r ≡ t ++ e ∷ [] → (covering views h v ≡ Some e.1.items) × (covering_view views h v ≡ Some e.0)
     covering-is e t is =
         let inside = range.3 e t is in
         let from : term_start views v ≤ e.0 = le_from_not_gt _ _ inside.0.0 in
         let to : e.0 ≤ v = le_from_not_gt _ _ inside.0.1 in
         let here : nullification h e.0 ≡ Some e.1.items = sym (kept e.0 from) ∙ ap (option_map (λ (bytes : Vec ℕ Global). bytes.items)) inside.1 in
-        rw (nat_lt-yes (finalized h) v above) (highest-is h (term_start views v) v e.0 e.1.items from to here (λ q behind up. elim (option_cases (get nat_cmp held.nullifications q)) [
+        let highest = highest-is h (term_start views v) v e.0 e.1.items from to here (λ q behind up. elim (option_cases (get nat_cmp held.nullifications q)) [
           | inl none ↦ sym (kept q (omega (arith, from, behind))) ∙ ap (option_map (λ (bytes : Vec ℕ Global). bytes.items)) none
           | inr some ↦
               let low : term_start views v ≤ q = omega (arith, from, behind) in
               let last : q ≤ e.0 = ge_from_not_lt e.0 q (range.4 e t is q (not_gt_from_le _ _ low, not_gt_from_le _ _ up) (rw some.1 refl)) in
               absurd (omega (arith, last, behind))
-        ]))
+        ]) in
+        (rw (nat_lt-yes (finalized h) v above) highest.0, rw (nat_lt-yes (finalized h) v above) highest.1)

@@ -4,6 +4,7 @@ pub mod Covers
 pub mod Gaps
 pub mod Items
 pub mod Keeping
+pub mod Late
 pub mod Leaving
 pub mod Serving
 pub mod TermStarts

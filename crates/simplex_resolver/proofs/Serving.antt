@@ -7,7 +7,7 @@ use Rattle.simplex_resolver.specs.RepairHistory.{Item, Nullified, Notarized, Fin
 use Rattle.simplex_resolver.specs.Answers.{Came, WhatIsProducedCame, brings, covering, highest_nullification, produced, servable}
 
 -- of two the first that is there, and one behind a test
-either : {T : Type 0} (a b : Option T) (y : T) → option_or a b ≡ Some y → (a ≡ Some y) ⊎ (b ≡ Some y)
+pub either : {T : Type 0} (a b : Option T) (y : T) → option_or a b ≡ Some y → (a ≡ Some y) ⊎ (b ≡ Some y)
 either None b y e = inr e
 either (Some x) b y e = inl e
 

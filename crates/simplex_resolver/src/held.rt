@@ -8,9 +8,11 @@ ghost use Rattle.std.specs.BTreeSet.{contains};
 ghost use Rattle.types_core.specs.Positions.{HasRoom, term_start, term_end};
 ghost use Rattle.simplex_record.specs.Coverage.{AreCoveredBetween, IsCovered, IsFirstUncovered};
 ghost use Rattle.simplex_resolver.specs.RepairHistory.{Nullified, Notarized, Finalized, Judged, finalized, finalization, covered, has_failed, is_known};
-ghost use Rattle.simplex_resolver.specs.Answers.{covering, servable};
+ghost use Rattle.simplex_resolver.specs.Answers.{covering, covering_view, named, named_of, servable};
 ghost use Rattle.simplex_resolver.specs.Keeps.{Holds, AtEachHeld};
+ghost use Rattle.simplex_resolver.specs.declared.source.SourceKind.TheVariants as kind;
 
+use crate::source::Source;
 use simplex_record::Coverage;
 use std::alloc::{AllocError, Global};
 use std::collections::{BTreeMap, BTreeSet};
@@ -154,8 +156,10 @@ impl Held {
     }
 
     /// The highest nullification that covers the view, where this is above the last finalized one.
-    pub(crate) fn covering(&self, view: View) -> Option<&[u8]>
-        ensures { AtEachHeld self.now (λ views h. option_map (λ bytes. bytes.now) result ≡ covering views h view) }
+    pub(crate) fn covering(&self, view: View) -> Option<(Source, &[u8])>
+        ensures bytes { AtEachHeld self.now (λ views h. option_map (λ answer. answer.1.now) result ≡ covering views h view) }
+        ensures source { AtEachHeld self.now
+            (λ views h. option_map (λ answer. answer.0) result ≡ option_map (named kind.Nullification) (covering_view views h view)) }
     {
         if view <= self.last_finalized {
             return None;
@@ -166,7 +170,9 @@ impl Held {
             .range((Bound::Included(start), Bound::Included(view)))
             .next_back()
         {
-            Some((_, bytes)) => Some(bytes.as_slice()),
+            Some((nullified, bytes)) => {
+                Some((Source::nullification(*nullified), bytes.as_slice()))
+            }
             None => None,
         }
     }
@@ -263,25 +269,29 @@ impl Held {
     }
 
     /// The certified notarization of the view.
-    pub(crate) fn certified(&self, view: View) -> Option<&[u8]>
-        ensures { AtEachHeld self.now (λ views h. option_map (λ bytes. bytes.now) result ≡ servable h view) }
+    pub(crate) fn certified(&self, view: View) -> Option<(Source, &[u8])>
+        ensures bytes { AtEachHeld self.now (λ views h. option_map (λ answer. answer.1.now) result ≡ servable h view) }
+        ensures source { AtEachHeld self.now
+            (λ views h. option_map (λ answer. answer.0) result ≡ named_of kind.Notarization view (servable h view)) }
     {
         match self.certified.get(&view) {
-            Some(bytes) => Some(bytes.as_slice()),
+            Some(bytes) => Some((Source::notarization(view), bytes.as_slice())),
             None => None,
         }
     }
 
     /// The highest finalization, where it is of this view or a later one.
-    pub(crate) fn finalization_from(&self, view: View) -> Option<&[u8]>
-        ensures { AtEachHeld self.now
-            (λ views h. option_map (λ bytes. bytes.now) result ≡ (if nat_le view (finalized h) then finalization h else None)) }
+    pub(crate) fn finalization_from(&self, view: View) -> Option<(Source, &[u8])>
+        ensures bytes { AtEachHeld self.now
+            (λ views h. option_map (λ answer. answer.1.now) result ≡ (if nat_le view (finalized h) then finalization h else None)) }
+        ensures source { AtEachHeld self.now (λ views h. option_map (λ answer. answer.0) result
+            ≡ named_of kind.Finalization (finalized h) (if nat_le view (finalized h) then finalization h else None)) }
     {
         if view > self.last_finalized {
             return None;
         }
         match &self.finalization {
-            Some(bytes) => Some(bytes.as_slice()),
+            Some(bytes) => Some((Source::finalization(self.last_finalized), bytes.as_slice())),
             None => None,
         }
     }

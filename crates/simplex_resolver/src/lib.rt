@@ -7,11 +7,15 @@ mod held;
 mod laws;
 mod outstanding;
 mod scanner;
+mod source;
 mod state;
 mod terms;
 
 pub use ask::{Ask, Kind, Until};
 pub use effect::{Effect, FetchReason};
-pub use laws::{effects_leave_the_outstanding, what_is_produced_came};
+pub use laws::{
+    effects_leave_the_outstanding, what_is_produced_came, what_is_served_is_of_late_views,
+};
 pub use outstanding::Outstanding;
+pub use source::{Source, SourceKind};
 pub use state::State;

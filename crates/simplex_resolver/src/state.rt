@@ -6,6 +6,7 @@ use crate::ask::Kind;
 use crate::effect::Effect;
 use crate::outstanding::Outstanding;
 use crate::scanner::Scanner;
+use crate::source::Source;
 use messages_certificates::{Certificate, Notarization};
 use std::alloc::{AllocError, Global};
 use types_core::{Digest, Scheme, TermLength, View, Viewable};
@@ -29,7 +30,7 @@ impl State {
     ghost use Rattle.types_core.specs.Positions.{term_index};
     ghost use Rattle.simplex_resolver.specs.RepairHistory.{Judged, Replayed, current, floor, item_of};
     ghost use Rattle.simplex_resolver.specs.Outstanding.{Gives, IsOutstanding};
-    ghost use Rattle.simplex_resolver.specs.Answers.{is_settled, is_key_settled, is_uncertifiable, produced};
+    ghost use Rattle.simplex_resolver.specs.Answers.{first_served, is_settled, is_key_settled, is_uncertifiable, produced, source};
     ghost use Rattle.simplex_resolver.specs.Keeps.{Keeps, AtEach, length_of};
 
     /// Nothing has come, and the replay has not ended.
@@ -170,22 +171,33 @@ impl State {
         self.scanner.held.has_failed(view)
     }
 
-    /// The best certificate for who asks for the view, as it was spelled.
-    pub fn produce(&self, view: View) -> Option<&[u8]>
-        ensures { AtEach self.now (λ views h. option_map (λ bytes. bytes.now) result ≡ produced views h view) }
+    /// The best certificate for who asks for the view: which it is, and its bytes as it was spelled.
+    pub fn produce(&self, view: View) -> Option<(Source, &[u8])>
+        ensures bytes { AtEach self.now (λ views h. option_map (λ answer. answer.1.now) result ≡ produced views h view) }
+        ensures source { AtEach self.now (λ views h. option_map (λ answer. answer.0) result ≡ source views h view) }
     {
-        if let Some(bytes) = self.scanner.held.finalization_from(view) {
-            return Some(bytes);
+        if let Some(answer) = self.scanner.held.finalization_from(view) {
+            return Some(answer);
         }
-        if let Some(bytes) = self.scanner.held.certified(view) {
-            return Some(bytes);
+        if let Some(answer) = self.scanner.held.certified(view) {
+            return Some(answer);
         }
-        if let Some(bytes) = self.scanner.held.covering(view) {
-            return Some(bytes);
+        if let Some(answer) = self.scanner.held.covering(view) {
+            return Some(answer);
         }
         if view > self.scanner.floor {
             return None;
         }
         self.scanner.held.certified(self.scanner.floor)
+    }
+
+    /// The first view of which anything can be served from now on.
+    pub fn first_served(&self) -> View
+        ensures { AtEach self.now (λ views h. result ≡ first_served views h) }
+    {
+        self.scanner
+            .held
+            .last_finalized
+            .term_start(self.scanner.held.length)
     }
 }

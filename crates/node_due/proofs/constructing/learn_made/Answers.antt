@@ -1,7 +1,10 @@
+use Rattle.simplex_resolver.specs.Answers.{first_served}
+use Rattle.simplex_member.specs.declared.served.Served.{Served}
 use Rattle.simplex_member.specs.Layers.{finalized_of, repair_of, voter_of}
 use Rattle.simplex_member.specs.Packet.{formats}
 use Rattle.simplex_member.specs.Point.{Constructs}
 use Rattle.simplex_member.specs.Recorded.{kept_of}
+use Rattle.simplex_member.specs.Served.{last_served}
 use Rattle.simplex_member.specs.Setup.{owner_of}
 use Rattle.node_core.specs.Standing.{begun_some}
 use Rattle.node_core.specs.Leaving.{left_at_rest}
@@ -45,9 +48,11 @@ returns-clause-keeps g c = λ s h view kind batch ahead may is.
     let x = c.args.certificate.now in
     let k = ahead.keeps in
     let may_now = may (adds_spelled g.S.Scheme f s h view kind batch c.args.certificate.now c.in-Ok.artifact _ is c.in-Ok.ensures.copy c.record.ensures.readable) in
-    made_keeps g.S.Scheme g.L.Elector g.K.Disk f s c.args.core.now c.enter.new.acceptance h view kind batch c.tell_voter.new.voter c.update_repair.new.repair c.record.new.ledger c.forget.new.self x is ahead may_now
-    (have_learned g.S.Scheme g.L.Elector g.K.Disk f s h x c.tell_voter.new.voter c.update_repair.new.repair c.record.new.ledger c.forget.new.self c.in-Ok.artifact c.moment-now.result c.last_finalized.result
+    made_keeps g.S.Scheme g.L.Elector g.K.Disk f s c.args.core.now c.enter.new.acceptance h view kind batch c.tell_voter.new.voter c.update_repair.new.repair c.record.new.ledger c.forget.new.self c.drop_before.new.self x is ahead may_now
+    (have_learned g.S.Scheme g.L.Elector g.K.Disk f s h x c.tell_voter.new.voter c.update_repair.new.repair c.record.new.ledger c.forget.new.self c.drop_before.new.self c.in-Ok.artifact c.moment-now.result c.last_finalized.result c.first_served.result
     (made_follows g.S.Scheme f s h view kind batch x is may_now) (made_fits_kept g.S.Scheme f s h (c.what_is_kept_stands_for_all.ensures.fits f s) k.allowed view kind batch x is may_now) c.in-Ok.ensures.copy (c.moment-now.ensures (finalized_of s h) h k.tables)
     (c.what_is_not_recorded_is_unknown.ensures f s h x k.allowed (begun_some h k.begun)) (c.in-Ok.ensures.told s.voter (voter_of s h) k.voter) (c.in-Ok-update_repair.ensures.told s.voter.length (repair_of f h) k.repair)
-    (c.in-Ok-record.ensures.keeps (owner_of s) (kept_of s.voter.length h) k.ledger) (c.last_finalized.ensures.value s.voter) (c.forget.ensures (finalized_of s h) h k.tables))
+    (c.in-Ok-record.ensures.keeps (owner_of s) (kept_of s.voter.length h) k.ledger) (c.last_finalized.ensures.value s.voter) (c.forget.ensures (finalized_of s h) h k.tables)
+    (c.first_served.ensures s.voter.length) (c.what_is_served_is_of_late_views.ensures.rises c.args.core.now.repair s.voter.length (repair_of f h) k.repair)
+    (c.drop_before.ensures s.repair.answers (first_served s.voter.length (repair_of f h)) (λ (x : Served). last_served f s h x) k.serving))
     (c.in-Ok-enter.ensures.entered s h)

@@ -11,7 +11,7 @@ use Rattle.simplex_member.specs.Recorded.{kept_of}
 use Rattle.simplex_member.specs.Setup.{owner_of}
 use Rattle.node_inbox.specs.Reading.{certificate-spelled}
 use Rattle.node_core.specs.Keeps.{book_of}
-use Rattle.node_input.proofs.Replying.{from-nothing, heard-handled, none-due, point-reached, refused-handled, refused-unhandled, rest-reached, stepped, still-reached, unasked}
+use Rattle.node_input.proofs.Replying.{from-nothing, heard-handled, none-due, point-reached, refused-handled, refused-unhandled, stepped, still-reached, unasked}
 use Rattle.node_input.proofs.receiving.handle_decided.Goals as goal
 
 -- it is refused
@@ -79,8 +79,8 @@ returns-in-Ok-take_ask-clause-handled g c = λ s h k by small decided none.
     let d = rw c.in-Ask.is at decided in
     record {
       ok = stepped (event.Packet c.args.sender by c.args.bytes) c.take_ask.new.out.items d.1 (subst (λ (o : Option (Packet g.row.S.Denot g.row.D.Denot g.row.S-PublicKey.Denot g.row.S-Signature.Denot g.row.S-Certificate.Denot)). IsPacketPoint c.args.sender o (Wanted c.args.sender c.in-Ask.view)) (sym d.0) (refl, refl))
-          (from-nothing g.S.Scheme g.L.Elector g.K.Disk f s c.args.core.now h (Wanted c.args.sender c.in-Ask.view) c.args.out.now.items c.take_ask.new.out.items none (c.in-Ok-take_ask.ensures.taken s h k d.2));
-      any_moment = λ keeps. rest-reached g.S.Scheme f s h g.K.Disk _ _ (event.Packet c.args.sender by c.args.bytes) (c.a_ledger_at_rest_leaves_its_record.ensures (owner_of s) c.args.core.now.ledger (kept_of s.voter.length h) k.ledger keeps);
+          (from-nothing g.S.Scheme g.L.Elector g.K.Disk f s c.take_ask.new.core h (Wanted c.args.sender c.in-Ask.view) c.args.out.now.items c.take_ask.new.out.items none (c.in-Ok-take_ask.ensures.taken s h k d.2));
+      any_moment = λ keeps. still-reached g.S.Scheme f s h g.K.Disk _ _ (event.Packet c.args.sender by c.args.bytes) c.take_ask.ensures.book (c.a_ledger_at_rest_leaves_its_record.ensures (owner_of s) c.args.core.now.ledger (kept_of s.voter.length h) k.ledger keeps);
       without_memory = λ r first needs. refl;
     }
 
@@ -90,12 +90,12 @@ returns-clause-handled g c = λ s h k by small decided none.
     let d = rw c.in-Ask.is at decided in
     record {
       ok = tt;
-      any_moment = λ keeps. rest-reached g.S.Scheme f s h g.K.Disk _ _ (event.Packet c.args.sender by c.args.bytes) (c.a_ledger_at_rest_leaves_its_record.ensures (owner_of s) c.args.core.now.ledger (kept_of s.voter.length h) k.ledger keeps);
+      any_moment = λ keeps. still-reached g.S.Scheme f s h g.K.Disk _ _ (event.Packet c.args.sender by c.args.bytes) c.take_ask.ensures.book (c.a_ledger_at_rest_leaves_its_record.ensures (owner_of s) c.args.core.now.ledger (kept_of s.voter.length h) k.ledger keeps);
       without_memory = none-due g.S.Scheme f s h (event.Packet c.args.sender by c.args.bytes) {A = Option Refusal} (Err c.in-Err-take_ask.fault) d.1;
     }
 
 pub returns-in-Ok-take_ask-clause-faults : goal.returns-in-Ok-take_ask-clause-faults
-returns-in-Ok-take_ask-clause-faults g c = unasked g.K.Disk (book_of c.args.core.now) (book_of c.args.core.now) (Ok None) refl tt
+returns-in-Ok-take_ask-clause-faults g c = unasked g.K.Disk (book_of c.args.core.now) (book_of c.take_ask.new.core) (Ok None) c.take_ask.ensures.book tt
 
 pub returns-clause-faults : goal.returns-clause-faults
-returns-clause-faults g c = unasked g.K.Disk (book_of c.args.core.now) (book_of c.args.core.now) (Err c.in-Err-take_ask.fault) refl c.in-Err-take_ask.ensures.fault
+returns-clause-faults g c = unasked g.K.Disk (book_of c.args.core.now) (book_of c.take_ask.new.core) (Err c.in-Err-take_ask.fault) c.take_ask.ensures.book c.in-Err-take_ask.ensures.fault

@@ -4,12 +4,17 @@ use Rattle.messages_certificates.specs.Artifact.{certificate_artifact}
 use Rattle.simplex_record.specs.Record.{entries, entry}
 use Rattle.simplex_record.specs.Rules.{MayFollow}
 use Rattle.simplex_state.specs.State as voting
+use Rattle.simplex_resolver.specs.Answers.{first_served}
+use Rattle.simplex_resolver.specs.RepairHistory.{item_of}
 use Rattle.node_record.specs.Ledger.{KeepsRecord}
+use Rattle.node_record.specs.Serving.{KeepsServing}
 use Rattle.node_record.specs.Tables.{KeepsTables}
+use Rattle.simplex_member.specs.declared.served.Served.{Served}
 use Rattle.simplex_member.specs.Layers.{finalized_of, latest, repair_of, takes_certificate, voter_of}
 use Rattle.simplex_member.specs.Packet.{formats}
 use Rattle.simplex_member.specs.Point.{Came}
 use Rattle.simplex_member.specs.Recorded.{kept_of, record_of}
+use Rattle.simplex_member.specs.Served.{last_served}
 use Rattle.simplex_member.specs.Setup.{owner_of}
 use Rattle.node_core.specs.Learning.{first_of}
 use Rattle.node_core.specs.Standing.{begun_some, rises, room_of}
@@ -53,6 +58,9 @@ returns-clause-taken g c = λ s h k allowed.
     let now : c.moment-now.result ≡ latest h = c.moment-now.ensures (finalized_of s h) h k.tables in
     let voter = subst (λ (t : ℕ). voting.Keeps g.S.Scheme g.L.Elector s.voter c.tell_voter.new.voter (takes_certificate t (finalized_of s h) x ++ voter_of s h)) now (c.in-Ok.ensures.told s.voter (voter_of s h) k.voter room unknown) in
     let kept = c.in-Ok-record.ensures.keeps (owner_of s) (kept_of s.voter.length h) k.ledger (subst (λ (a : Artifact g.row.S.Denot g.row.D.Denot g.row.S-PublicKey.Denot g.row.S-Signature.Denot g.row.S-Certificate.Denot). MayFollow s.voter.length (entries (kept_of s.voter.length h)) (entry a)) (sym c.in-Ok.ensures.copy) (c.what_is_kept_stands_for_all.ensures.fits f s h (Came x) (certificate_artifact x) (allowed, k.allowed) refl).follows) in
+    let repair = c.in-Ok-update_repair.ensures.told s.voter.length (repair_of f h) k.repair room in
+    let first : c.first_served.result ≡ first_served s.voter.length (repair_of f (Came x ∷ h)) = c.first_served.ensures s.voter.length (repair_of f (Came x ∷ h)) repair in
+    let later = c.what_is_served_is_of_late_views.ensures.rises c.args.core.now.repair s.voter.length (repair_of f h) k.repair (item_of f.certificate x) in
     let final : c.last_finalized.result ≡ finalized_of s (Came x ∷ h) = c.last_finalized.ensures.value s.voter (voter_of s (Came x ∷ h)) voter in
     record {
       begun = k.begun;
@@ -60,7 +68,9 @@ returns-clause-taken g c = λ s h k allowed.
       set_up = k.set_up;
       voter = voter;
       votes = c.in-Ok-tell_votes.ensures.told s h k.votes room voter;
-      repair = c.in-Ok-update_repair.ensures.told s.voter.length (repair_of f h) k.repair room;
+      repair = repair;
       ledger = subst (λ (a : Artifact g.row.S.Denot g.row.D.Denot g.row.S-PublicKey.Denot g.row.S-Signature.Denot g.row.S-Certificate.Denot). KeepsRecord g.K.Disk f.artifact (owner_of s) c.record.new.ledger (kept_of s.voter.length h ++ a ∷ [])) c.in-Ok.ensures.copy kept;
       tables = subst (λ (n : ℕ). KeepsTables n c.forget.new.self (Came x ∷ h)) final (c.forget.ensures (finalized_of s h) (Came x ∷ h) k.tables (subst (λ (n : ℕ). finalized_of s h ≤ n) (sym final) (rises (latest h) (finalized_of s h) x (voter_of s h))));
+      serving = subst (λ (n : ℕ). KeepsServing s.repair.answers n (λ (y : Served). last_served f s h y) c.drop_before.new.self) first
+          (c.drop_before.ensures s.repair.answers (first_served s.voter.length (repair_of f h)) (λ (y : Served). last_served f s h y) k.serving (subst (λ (n : ℕ). first_served s.voter.length (repair_of f h) ≤ n) (sym first) later));
     }

@@ -12,4 +12,5 @@ returns-clause-taken g c = λ f s h k same behind time. record {
   repair = k.repair;
   ledger = k.ledger;
   tables = c.tell.ensures (finalized_of s h) h k.tables;
+  serving = k.serving;
 }

@@ -32,7 +32,7 @@ returns-clause-taken g c = on_ok_weaker c.relay_at_entry.result (λ acts. λ s h
     let votes = c.in_ok-enter.ensures.entered s h p refl voter (c.silent_points_leave_votes.ensures.silent s c.args.core.now.acceptance h p (λ view. (refl, λ x. refl)) k.votes) in
     let repair = c.in_ok-hand_on.ensures.told n known s.voter.length (repair_of f h) k.repair (subst (λ (u : ℕ). HasRoom s.voter.length u) (sym j.at) j.room) in
     let tables = c.quiet_points_leave_the_tables.ensures low c.args.core.now.tables h p refl k.tables in
-    let keeps = behind_verdict g.S.Scheme g.L.Elector g.K.Disk f s c.args.core.now c.certified.new.self c.enter.new.acceptance c.hand_on.new.repair h r c.args.ok n recorded may j.recorded j.at voter votes repair tables in
+    let keeps = behind_verdict g.S.Scheme g.L.Elector g.K.Disk f s c.args.core.now c.certified.new.self c.enter.new.acceptance c.hand_on.new.repair h r c.args.ok n recorded may j.recorded j.at voter votes repair tables (c.what_is_served_is_of_late_views.ensures.stays c.args.core.now.repair s.voter.length (repair_of f h) k.repair) in
     let reported = subst (λ (deeds : List (Deed _ _ _ _ _)). AddsDeeds f c.args.out.now.items c.hand_on.new.out.items deeds) (reports_are g.S.Scheme f s h r n c.args.ok j.recorded) (c.in_ok-hand_on.ensures.acts f n known) in
     record {
       keeps = keeps;

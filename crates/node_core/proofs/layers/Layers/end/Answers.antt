@@ -24,6 +24,7 @@ returns g c = λ n now s found before after k acts.
         votes = c.silent_points_leave_votes.ensures.quiet s c.args.self.now.acceptance h Began (λ view. (refl, λ r. refl)) refl k.stand.votes;
         repair = c.in_ok-replayed.ensures.keeps s.voter.length (repair_of f h) k.stand.repair;
         tables = λ low. c.quiet_points_leave_the_tables.ensures low c.args.self.now.tables h Began refl (k.stand.tables low);
+        serving = k.stand.serving;
       };
       opens = opens-behind g.S.Scheme f s now h found after k.reading k.allowed whole acts;
     }

@@ -74,6 +74,7 @@ returns g c = on_ok_weaker c.tell_repair.result (λ recalled n now s found rest 
         votes = c.in_ok-enter.ensures.entered s h (Found x told.0) ahead refl current least;
         repair = recalled n s h rest room all k.stand.repair;
         tables = λ low. c.quiet_points_leave_the_tables.ensures low c.args.self.now.tables h (Found x told.0) refl (k.stand.tables low);
+        serving = k.stand.serving;
       };
       acts = acts;
     })

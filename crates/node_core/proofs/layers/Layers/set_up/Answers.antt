@@ -1,9 +1,12 @@
-use Rattle.std.proofs.Common.{[], ◌∙◌, ap, subst, refl, ℕ}
+use Rattle.std.proofs.Common.{[], ◌∙◌, ap, subst, refl, ℕ, Option, None}
 use Rattle.simplex_record.specs.declared.owner.Owner.{Owner}
+use Rattle.voter_rules.specs.declared.config.RepairPolicy.{RepairPolicy}
 use Rattle.voter_views.specs.Views.{built}
 use Rattle.simplex_state.specs.State as voting
 use Rattle.simplex_resolver.specs.Keeps as repairing
+use Rattle.simplex_member.specs.declared.served.Served.{Served}
 use Rattle.simplex_member.specs.Setup.{setup_of}
+use Rattle.node_record.specs.Serving.{KeepsServing}
 use Rattle.node_core.proofs.layers.Layers.set_up.Goals as goal
 
 pub returns : goal.returns
@@ -20,4 +23,5 @@ returns g c = λ n index set_up.
       });
       repair = subst (λ (views : ℕ). repairing.Keeps views c.new-repair.result []) (ap (λ (o : Owner). o.term_length) set_up.owner_is) c.new-repair.ensures.keeps;
       tables = c.new-tables.ensures;
+      serving = λ first. subst (λ (time : Option ℕ). KeepsServing time first (λ (x : Served). None) c.new-serving.result) (ap (λ (p : RepairPolicy). p.answers) set_up.repair_is) (c.new-serving.ensures first);
     }

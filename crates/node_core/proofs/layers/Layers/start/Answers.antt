@@ -18,5 +18,6 @@ returns g c = on_ok_weaker c.enter.result (λ entered n s genesis_is new.
       votes = entered s [] (Opened c.args.now) ahead refl current floor;
       repair = new.repair;
       tables = new.tables;
+      serving = new.serving;
     })
     c.enter.ensures.entered

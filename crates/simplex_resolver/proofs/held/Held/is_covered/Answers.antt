@@ -5,4 +5,4 @@ use Rattle.simplex_resolver.proofs.Covers.{covering-covered}
 use Rattle.simplex_resolver.proofs.held.Held.is_covered.Goals as goal
 
 pub returns : goal.returns
-returns c = λ views h k above. c.is_some.ensures ∙ (sym (is_some-map (λ bytes. bytes.now) c.covering.result) ∙ (ap (λ (o : Option (List ℕ)). is_some o) (c.covering.ensures views h k) ∙ covering-covered views h c.args.view above))
+returns c = λ views h k above. c.is_some.ensures ∙ (sym (is_some-map (λ answer. answer.1.now) c.covering.result) ∙ (ap (λ (o : Option (List ℕ)). is_some o) (c.covering.ensures.bytes views h k) ∙ covering-covered views h c.args.view above))

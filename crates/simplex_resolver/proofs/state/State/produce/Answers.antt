@@ -2,8 +2,9 @@ use Rattle.std.specs.Prelude.{nat_le}
 use Rattle.std.specs.Option.{option_map, option_or}
 use Rattle.std.proofs.Common.{◌≡◌, ◌≤◌, ◌<◌, sym, ◌∙◌, ap, arith, ℕ, Bool, Option, Some, None, if◌then◌else◌}
 use Rattle.std.proofs.lemmas.Bool.Decides.{nat_tests}
+use Rattle.simplex_resolver.specs.declared.source.SourceKind.TheVariants as kind
 use Rattle.simplex_resolver.specs.RepairHistory.{floor}
-use Rattle.simplex_resolver.specs.Answers.{servable}
+use Rattle.simplex_resolver.specs.Answers.{named_of, servable}
 use Rattle.simplex_resolver.proofs.Choices.{nat_le-yes, nat_le-no}
 use Rattle.simplex_resolver.proofs.state.State.produce.Goals as goal
 
@@ -20,44 +21,88 @@ behind_three a b c d no_a no_b no_c = behind_two a b (option_or c d) no_a no_b �
 is_first : {T : Type 0} (a b : Option T) (x : T) → a ≡ Some x → option_or a b ≡ Some x
 is_first {T} a b x is = ap (λ (o : Option T). option_or o b) is
 
-pub returns-in-Some : goal.returns-in-Some
-returns-in-Some c = λ views h k.
-    let is = sym (c.finalization_from.ensures views h k.stands.holds) ∙ ap (option_map (λ bytes. bytes.now)) c.in-Some.is in
+-- its bytes
+pub returns-in-Some-clause-bytes : goal.returns-in-Some-clause-bytes
+returns-in-Some-clause-bytes c = λ views h k.
+    let is = sym (c.finalization_from.ensures.bytes views h k.stands.holds) ∙ ap (option_map (λ answer. answer.1.now)) c.in-Some.is in
     sym (is_first _ _ _ is)
 
-pub returns-in-Some-certified : goal.returns-in-Some-certified
-returns-in-Some-certified c = λ views h k.
-    let no_finalization = sym (c.finalization_from.ensures views h k.stands.holds) ∙ ap (option_map (λ bytes. bytes.now)) c.in_default.is in
-    let is = sym (c.certified.ensures views h k.stands.holds) ∙ ap (option_map (λ bytes. bytes.now)) c.in-Some-certified.is in
+pub returns-in-Some-certified-clause-bytes : goal.returns-in-Some-certified-clause-bytes
+returns-in-Some-certified-clause-bytes c = λ views h k.
+    let no_finalization = sym (c.finalization_from.ensures.bytes views h k.stands.holds) ∙ ap (option_map (λ answer. answer.1.now)) c.in_default.is in
+    let is = sym (c.certified.ensures.bytes views h k.stands.holds) ∙ ap (option_map (λ answer. answer.1.now)) c.in-Some-certified.is in
     sym (behind_one _ _ no_finalization ∙ is_first _ _ _ is)
 
-pub returns-in-Some-covering : goal.returns-in-Some-covering
-returns-in-Some-covering c = λ views h k.
-    let no_finalization = sym (c.finalization_from.ensures views h k.stands.holds) ∙ ap (option_map (λ bytes. bytes.now)) c.in_default.is in
-    let no_notarization = sym (c.certified.ensures views h k.stands.holds) ∙ ap (option_map (λ bytes. bytes.now)) c.in_default-certified.is in
-    let is = sym (c.covering.ensures views h k.stands.holds) ∙ ap (option_map (λ bytes. bytes.now)) c.in-Some-covering.is in
+pub returns-in-Some-covering-clause-bytes : goal.returns-in-Some-covering-clause-bytes
+returns-in-Some-covering-clause-bytes c = λ views h k.
+    let no_finalization = sym (c.finalization_from.ensures.bytes views h k.stands.holds) ∙ ap (option_map (λ answer. answer.1.now)) c.in_default.is in
+    let no_notarization = sym (c.certified.ensures.bytes views h k.stands.holds) ∙ ap (option_map (λ answer. answer.1.now)) c.in_default-certified.is in
+    let is = sym (c.covering.ensures.bytes views h k.stands.holds) ∙ ap (option_map (λ answer. answer.1.now)) c.in-Some-covering.is in
     sym (behind_two _ _ _ no_finalization no_notarization ∙ is_first _ _ _ is)
 
-pub returns-then-gt : goal.returns-then-gt
-returns-then-gt c =
+pub returns-then-gt-clause-bytes : goal.returns-then-gt-clause-bytes
+returns-then-gt-clause-bytes c =
     let past : c.args.self.now.scanner.floor < c.args.view = grind (arith, nat_tests) in
     λ views h k.
-    let no_finalization = sym (c.finalization_from.ensures views h k.stands.holds) ∙ ap (option_map (λ bytes. bytes.now)) c.in_default.is in
-    let no_notarization = sym (c.certified.ensures views h k.stands.holds) ∙ ap (option_map (λ bytes. bytes.now)) c.in_default-certified.is in
-    let no_nullification = sym (c.covering.ensures views h k.stands.holds) ∙ ap (option_map (λ bytes. bytes.now)) c.in_default-covering.is in
+    let no_finalization = sym (c.finalization_from.ensures.bytes views h k.stands.holds) ∙ ap (option_map (λ answer. answer.1.now)) c.in_default.is in
+    let no_notarization = sym (c.certified.ensures.bytes views h k.stands.holds) ∙ ap (option_map (λ answer. answer.1.now)) c.in_default-certified.is in
+    let no_nullification = sym (c.covering.ensures.bytes views h k.stands.holds) ∙ ap (option_map (λ answer. answer.1.now)) c.in_default-covering.is in
     let floor_is = k.stands.floor_is in
     let high : floor h < c.args.view = omega (arith, past, floor_is) in
     let none : (if nat_le c.args.view (floor h) then servable h (floor h) else None) ≡ None = ap (λ (b : Bool). if b then servable h (floor h) else None) (nat_le-no c.args.view (floor h) high) in
     sym (behind_three _ _ _ _ no_finalization no_notarization no_nullification ∙ none)
 
-pub returns : goal.returns
-returns c =
+pub returns-clause-bytes : goal.returns-clause-bytes
+returns-clause-bytes c =
     let before : c.args.view ≤ c.args.self.now.scanner.floor = grind (arith, nat_tests) in
     λ views h k.
-    let no_finalization = sym (c.finalization_from.ensures views h k.stands.holds) ∙ ap (option_map (λ bytes. bytes.now)) c.in_default.is in
-    let no_notarization = sym (c.certified.ensures views h k.stands.holds) ∙ ap (option_map (λ bytes. bytes.now)) c.in_default-certified.is in
-    let no_nullification = sym (c.covering.ensures views h k.stands.holds) ∙ ap (option_map (λ bytes. bytes.now)) c.in_default-covering.is in
+    let no_finalization = sym (c.finalization_from.ensures.bytes views h k.stands.holds) ∙ ap (option_map (λ answer. answer.1.now)) c.in_default.is in
+    let no_notarization = sym (c.certified.ensures.bytes views h k.stands.holds) ∙ ap (option_map (λ answer. answer.1.now)) c.in_default-certified.is in
+    let no_nullification = sym (c.covering.ensures.bytes views h k.stands.holds) ∙ ap (option_map (λ answer. answer.1.now)) c.in_default-covering.is in
     let floor_is = k.stands.floor_is in
     let low : c.args.view ≤ floor h = omega (arith, before, floor_is) in
     let last : (if nat_le c.args.view (floor h) then servable h (floor h) else None) ≡ servable h (floor h) = ap (λ (b : Bool). if b then servable h (floor h) else None) (nat_le-yes c.args.view (floor h) low) in
-    c.certified-2.ensures views h k.stands.holds ∙ (ap (λ (v : ℕ). servable h v) floor_is ∙ sym (behind_three _ _ _ _ no_finalization no_notarization no_nullification ∙ last))
+    c.certified-2.ensures.bytes views h k.stands.holds ∙ (ap (λ (v : ℕ). servable h v) floor_is ∙ sym (behind_three _ _ _ _ no_finalization no_notarization no_nullification ∙ last))
+
+-- which it is
+pub returns-in-Some-clause-source : goal.returns-in-Some-clause-source
+returns-in-Some-clause-source c = λ views h k.
+    let is = sym (c.finalization_from.ensures.source views h k.stands.holds) ∙ ap (option_map (λ answer. answer.0)) c.in-Some.is in
+    sym (is_first _ _ _ is)
+
+pub returns-in-Some-certified-clause-source : goal.returns-in-Some-certified-clause-source
+returns-in-Some-certified-clause-source c = λ views h k.
+    let no_finalization = sym (c.finalization_from.ensures.source views h k.stands.holds) ∙ ap (option_map (λ answer. answer.0)) c.in_default.is in
+    let is = sym (c.certified.ensures.source views h k.stands.holds) ∙ ap (option_map (λ answer. answer.0)) c.in-Some-certified.is in
+    sym (behind_one _ _ no_finalization ∙ is_first _ _ _ is)
+
+pub returns-in-Some-covering-clause-source : goal.returns-in-Some-covering-clause-source
+returns-in-Some-covering-clause-source c = λ views h k.
+    let no_finalization = sym (c.finalization_from.ensures.source views h k.stands.holds) ∙ ap (option_map (λ answer. answer.0)) c.in_default.is in
+    let no_notarization = sym (c.certified.ensures.source views h k.stands.holds) ∙ ap (option_map (λ answer. answer.0)) c.in_default-certified.is in
+    let is = sym (c.covering.ensures.source views h k.stands.holds) ∙ ap (option_map (λ answer. answer.0)) c.in-Some-covering.is in
+    sym (behind_two _ _ _ no_finalization no_notarization ∙ is_first _ _ _ is)
+
+pub returns-then-gt-clause-source : goal.returns-then-gt-clause-source
+returns-then-gt-clause-source c =
+    let past : c.args.self.now.scanner.floor < c.args.view = grind (arith, nat_tests) in
+    λ views h k.
+    let no_finalization = sym (c.finalization_from.ensures.source views h k.stands.holds) ∙ ap (option_map (λ answer. answer.0)) c.in_default.is in
+    let no_notarization = sym (c.certified.ensures.source views h k.stands.holds) ∙ ap (option_map (λ answer. answer.0)) c.in_default-certified.is in
+    let no_nullification = sym (c.covering.ensures.source views h k.stands.holds) ∙ ap (option_map (λ answer. answer.0)) c.in_default-covering.is in
+    let floor_is = k.stands.floor_is in
+    let high : floor h < c.args.view = omega (arith, past, floor_is) in
+    let none : named_of kind.Notarization (floor h) (if nat_le c.args.view (floor h) then servable h (floor h) else None) ≡ None = ap (λ (b : Bool). named_of kind.Notarization (floor h) (if b then servable h (floor h) else None)) (nat_le-no c.args.view (floor h) high) in
+    sym (behind_three _ _ _ _ no_finalization no_notarization no_nullification ∙ none)
+
+pub returns-clause-source : goal.returns-clause-source
+returns-clause-source c =
+    let before : c.args.view ≤ c.args.self.now.scanner.floor = grind (arith, nat_tests) in
+    λ views h k.
+    let no_finalization = sym (c.finalization_from.ensures.source views h k.stands.holds) ∙ ap (option_map (λ answer. answer.0)) c.in_default.is in
+    let no_notarization = sym (c.certified.ensures.source views h k.stands.holds) ∙ ap (option_map (λ answer. answer.0)) c.in_default-certified.is in
+    let no_nullification = sym (c.covering.ensures.source views h k.stands.holds) ∙ ap (option_map (λ answer. answer.0)) c.in_default-covering.is in
+    let floor_is = k.stands.floor_is in
+    let low : c.args.view ≤ floor h = omega (arith, before, floor_is) in
+    let last : named_of kind.Notarization (floor h) (if nat_le c.args.view (floor h) then servable h (floor h) else None) ≡ named_of kind.Notarization (floor h) (servable h (floor h)) = ap (λ (b : Bool). named_of kind.Notarization (floor h) (if b then servable h (floor h) else None)) (nat_le-yes c.args.view (floor h) low) in
+    c.certified-2.ensures.source views h k.stands.holds ∙ (ap (λ (v : ℕ). named_of kind.Notarization v (servable h v)) floor_is ∙ sym (behind_three _ _ _ _ no_finalization no_notarization no_nullification ∙ last))

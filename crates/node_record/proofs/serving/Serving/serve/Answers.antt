@@ -1,0 +1,13 @@
+use Rattle.node_record.proofs.Noted.{is_stated, one_noted, still_nothing}
+use Rattle.node_record.proofs.serving.Serving.serve.Goals as goal
+
+-- no time is stated
+pub returns-then-is_none-clause-keeps : goal.returns-then-is_none-clause-keeps
+returns-then-is_none-clause-keeps c = λ time first last k from. still_nothing first last time c.args.self.now _ c.if-is_none.true k
+
+-- it is noted
+pub returns-clause-keeps : goal.returns-clause-keeps
+returns-clause-keeps c = λ time first last k from. record {
+  time_is = k.time_is;
+  moments = λ x. one_noted first last time c.args.served x c.args.now _ _ (is_stated time c.args.self.now.time k.time_is c.if-is_none.false) from (c.in_ok-insert.ensures.updates.0 x) (k.moments x);
+}
