@@ -1,5 +1,5 @@
 -- What is served is of late views.
-use Rattle.std.specs.Prelude.{max, nat_lt, nat_le}
+use Rattle.std.specs.Prelude.{max, nat_le}
 use Rattle.std.specs.Option.{option_map}
 use Rattle.std.proofs.Common.{◌≡◌, ◌⊎◌, inl, inr, ⊎_elim, ◌≤◌, ◌<◌, ℕ, zero, suc, Bool, true, false, List, ◌∷◌, Option, Some, None, refl, subst, ap, ◌∙◌, arith, if◌then◌else◌}
 use Rattle.std.proofs.lemmas.Bool.{cases_lt}
