@@ -17,5 +17,5 @@ returns-clause-gone c = λ x lower. nothing_in c.loop-served.moments (λ some. a
 
 pub loop-served-preserved : goal.loop-served-preserved
 loop-served-preserved c = λ x from.
-    let below : c.in-Some.served.source.view < c.args.first = grind (arith, nat_tests, c.if-le.ensures) in
-    c.remove.ensures.updates.2 x (other_key c.in-Some.served x (omega (arith, below, from))) ∙ c.loop-served.invariant x from
+    let below : c.in-Some.field-0-0.now.source.view < c.args.first = grind (arith, nat_tests, c.if-le.ensures, c.in-Some.served-is) in
+    c.remove.ensures.updates.2 x (other_key c.in-Some.field-0-0.now x (omega (arith, below, from))) ∙ c.loop-served.invariant x from
