@@ -1,10 +1,11 @@
 -- What is remembered of what was served.
-use Rattle.std.proofs.Common.{◌≡◌, ◌≤◌, ◌<◌, ◌==◌, ◌&&◌, ◌∙◌, ⊎_elim, ℕ, Bool, true, false, cond, Option, Some, None, refl, sym, ap, subst, arith}
+use Rattle.std.proofs.Common.{◌≡◌, ◌≤◌, ◌<◌, ◌==◌, ◌&&◌, ◌∙◌, ⊎_elim, ℕ, Bool, true, false, cond, [], Option, Some, None, refl, sym, ap, subst, arith}
 use Rattle.std.specs.Prelude.{IsSome, if◌then◌else◌, is_none, is_some, nat_le, not}
-use Rattle.std.specs.BTreeMap.{get}
+use Rattle.std.specs.BTreeMap.{BTreeMap, btree_map_len, get}
 use Rattle.std.specs.Ordering.{is_eq, is_gt}
 use Rattle.std.proofs.lemmas.Bool.{and_parts, cases_Bool, cases_lt, eqb-true}
 use Rattle.std.proofs.lemmas.Bool.Decides.{nat_tests}
+use Rattle.std.proofs.lemmas.List.{nil_from_length}
 use Rattle.simplex_resolver.specs.declared.source.SourceKind.{SourceKind}
 use Rattle.simplex_resolver.specs.declared.source.SourceKind.TheVariants as kind
 use Rattle.simplex_resolver.specs.Answers.{is_same_kind, is_same_source}
@@ -36,6 +37,14 @@ none_lower x y lower first = grind (arith, nat_tests, lower, first)
 pub none_of : {A : Type 0} (o : Option A) → (IsSome o → ⊥) → o ≡ None
 none_of None never = refl
 none_of (Some x) never = absurd (never refl)
+
+-- what is of another view is another key
+pub other_key : (x y : Served) → x.source.view < y.source.view → is_eq (served_cmp x y) ≡ false
+other_key x y lower = grind (arith, nat_tests, lower)
+
+-- nothing stands in an empty map
+pub nothing_in : (moments : BTreeMap Served ℕ) → (0 < btree_map_len moments → ⊥) → (x : Served) → get served_cmp moments x ≡ None
+nothing_in moments empty x = let gone : moments.entries ≡ [] = nil_from_length moments.entries (omega (arith, empty)) in rw gone refl
 
 from-yes : (first v : ℕ) → first ≤ v → nat_le first v ≡ true
 from-yes first v le = grind (arith, nat_tests, le)

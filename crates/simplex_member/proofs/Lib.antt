@@ -43,7 +43,7 @@ mod Waiting
 mod Lone
 mod Spellings
 mod Serving
-mod Served
+mod Often
 mod Asking
 mod Blameless
 mod Awaiting

@@ -1,10 +1,10 @@
 -- What is served is of late views.
-use Rattle.std.specs.Prelude.{max, nat_lt, nat_le}
+use Rattle.std.specs.Prelude.{max, nat_le}
 use Rattle.std.specs.Option.{option_map}
 use Rattle.std.proofs.Common.{◌≡◌, ◌⊎◌, inl, inr, ⊎_elim, ◌≤◌, ◌<◌, ℕ, zero, suc, Bool, true, false, List, ◌∷◌, Option, Some, None, refl, subst, ap, ◌∙◌, arith, if◌then◌else◌}
 use Rattle.std.proofs.lemmas.Bool.{cases_lt}
 use Rattle.std.proofs.lemmas.Bool.Decides.{nat_tests}
-use Rattle.types_core.specs.Positions.{term_start}
+use Rattle.types_core.specs.Positions.{term_end, term_start}
 use Rattle.simplex_resolver.specs.declared.source.Source.{Source}
 use Rattle.simplex_resolver.specs.declared.source.SourceKind.{SourceKind}
 use Rattle.simplex_resolver.specs.declared.source.SourceKind.TheVariants as kind
@@ -17,7 +17,7 @@ use Rattle.simplex_resolver.proofs.TermStarts.{start-end, term_start-ge}
 -- which certificate bytes that are there are of
 of_view : (is : SourceKind) (view : ℕ) (o : Option (List ℕ)) (x : Source) → named_of is view o ≡ Some x → (x.view ≡ view) × ((bytes : List ℕ) × (o ≡ Some bytes))
 of_view is view None x e = absurd (cc e)
-of_view is view (Some bytes) x e = (subst (λ (o : Option Source). view_of o ≡ view) e refl, bytes, refl)
+of_view is view (Some bytes) x e = (subst (λ (o : Option Source). view_of o ≡ view) e refl, (bytes, refl))
   where
     view_of : Option Source → ℕ
     view_of None = view

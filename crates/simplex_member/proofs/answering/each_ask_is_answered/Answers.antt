@@ -1,4 +1,4 @@
-use Rattle.simplex_member.proofs.Served.{all-answered}
+use Rattle.simplex_member.proofs.Often.{all-answered}
 use Rattle.simplex_member.proofs.answering.each_ask_is_answered.Goals as goal
 
 pub returns : goal.returns

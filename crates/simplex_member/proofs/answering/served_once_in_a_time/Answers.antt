@@ -1,4 +1,4 @@
-use Rattle.simplex_member.proofs.Served.{once-in-a-time}
+use Rattle.simplex_member.proofs.Often.{once-in-a-time}
 use Rattle.simplex_member.proofs.answering.served_once_in_a_time.Goals as goal
 
 pub returns : goal.returns

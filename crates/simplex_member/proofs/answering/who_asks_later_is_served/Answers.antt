@@ -1,4 +1,4 @@
-use Rattle.simplex_member.proofs.Served.{later-served}
+use Rattle.simplex_member.proofs.Often.{later-served}
 use Rattle.simplex_member.proofs.answering.who_asks_later_is_served.Goals as goal
 
 pub returns : goal.returns
