@@ -1,6 +1,6 @@
 //! What is due of the votes of all views: they learn who leads, their proposals go to the voter, certificates are made.
 
-ghost use Rattle.std.specs.Prelude.{◌≡◌, ◌∷◌, ℕ, List, Some, IfErr, IfOk, OnOk};
+ghost use Rattle.std.specs.Prelude.{◌≡◌, ◌∷◌, ℕ, List, Some, IfErr, IfOk, OnOk, vec_capacity, vec_len};
 ghost use Rattle.messages_certificates.specs.Artifact.{artifact_fits};
 ghost use Rattle.messages_certificates.specs.declared.certificate.Certificate.{Certificate};
 ghost use Rattle.types_terms.specs.declared.kind.Kind.{Kind};
@@ -19,6 +19,7 @@ ghost use Rattle.node_due.specs.Acting.{WasTried};
 ghost use Rattle.node_due.specs.Ahead.{MayCome, VotesAreAhead, VotesGoAhead};
 ghost use Rattle.node_core.specs.Keeps.{AtOwn, CoreKeeps, book_of};
 ghost use Rattle.node_requests.specs.Leading.{NoLeaderToName};
+ghost use Rattle.node_requests.specs.Room.{HasRoomForAsks};
 ghost use Rattle.node_due.specs.NoneDue.{NoConstructionToMake};
 ghost use Rattle.node_core.specs.Telling.{TellsOfBook};
 ghost use Rattle.node_core.specs.Taking.{IsLeftBy, IsTaken};
@@ -29,7 +30,7 @@ use node_core::{Core, enter, tell_voter, update_repair, what_is_not_recorded_is_
 use node_inbox::record;
 use node_outbox::{block_all, spelled};
 use node_record::a_ledger_at_rest_leaves_its_record;
-use node_requests::{Acted, name_leader};
+use node_requests::{Acted, make_room_for_asks, name_leader};
 use node_votes::Due;
 use simplex_batcher::Batch;
 use simplex_member::{
@@ -184,7 +185,7 @@ fn take_made<S: Scheme<D> + Drop, L: Elector<S, D>, D: Digest, K: Disk>(
 {
     let was = core.voter.current_view();
     let low = core.voter.last_finalized();
-    match learn_made(core, &certificate) {
+    match learn_made(core, &certificate, out) {
         Ok(()) => {}
         Err(fault) => return Err(fault),
     }
@@ -194,11 +195,13 @@ fn take_made<S: Scheme<D> + Drop, L: Elector<S, D>, D: Digest, K: Disk>(
     core.hand_certificate(was, low, certificate, bytes, out)
 }
 
-/// All layers but the votes of its view learn of a certificate that was made, and it is recorded.
+/// All layers but the votes of its view learn of a certificate that was made, and it is recorded, once there is room for the asks that may
+/// follow.
 #[tactic(auto, using(journal_books::specs::BooksLaws::same_not_failed))]
 fn learn_made<S: Scheme<D> + Drop, L: Elector<S, D>, D: Digest, K: Disk>(
     core: &mut Core<S, L, D, K>,
     certificate: &Certificate<S, D>,
+    out: &mut Vec<Action<S, D>>,
 ) -> Result<(), NodeFault>
     ensures keeps { OnOk result ((s : Setup S D S.Certificate) (h : History S D S.PublicKey S.Signature S.Certificate) (view : ℕ)
         (kind : Kind) (batch : Batch (Certificate S D S.PublicKey S.Signature S.Certificate))
@@ -215,6 +218,11 @@ fn learn_made<S: Scheme<D> + Drop, L: Elector<S, D>, D: Digest, K: Disk>(
         → batch.certificate ≡ Some certificate.now
         → K.keeps
         → LeaveBook K.Disk (book_of core.old) (book_of core.new) (IsLeftBy S.Scheme f s h (Constructs view kind batch)) }
+
+    // Where the asks that may follow have no room, nothing is recorded.
+    ensures room { ¬ HasRoomForAsks core.new.settings.repair.window core.new.repair (vec_len out.new) (vec_capacity out.new)
+        → book_of core.new ≡ book_of core.old }
+    ensures same { out.new.items ≡ out.old.items }
     ensures faults { TellsOfBook K.Disk (book_of core.old) (book_of core.new) result }
 {
     what_is_not_recorded_is_unknown::<S, D>();
@@ -222,14 +230,18 @@ fn learn_made<S: Scheme<D> + Drop, L: Elector<S, D>, D: Digest, K: Disk>(
     a_ledger_at_rest_leaves_its_record::<S, D, K>();
     let alloc = core.settings.alloc;
     let now = core.tables.moment();
+    match update_repair(alloc, certificate, &mut core.repair) {
+        Ok(()) => {}
+        Err(fault) => return Err(fault),
+    }
+    match make_room_for_asks(core.settings.repair, &core.repair, out) {
+        Ok(()) => {}
+        Err(fault) => return Err(fault),
+    }
     let Ok(artifact) = tell_voter(alloc, now, certificate, &mut core.voter) else {
         return Err(NodeFault::Memory);
     };
     match record(&mut core.ledger, artifact) {
-        Ok(()) => {}
-        Err(fault) => return Err(fault),
-    }
-    match update_repair(alloc, certificate, &mut core.repair) {
         Ok(()) => {}
         Err(fault) => return Err(fault),
     }

@@ -1,6 +1,6 @@
 //! Certificates that came.
 
-ghost use Rattle.std.specs.Prelude.{◌≡◌, ◌≢◌, ◌∷◌, true, false, IfErr, OnOk, IsErrOf};
+ghost use Rattle.std.specs.Prelude.{◌≡◌, ◌≢◌, ◌∷◌, true, false, IfErr, OnOk, IsErrOf, vec_capacity, vec_len};
 ghost use Rattle.journal_books.specs.Books.{HasFailed, HasNotFailed, LeaveBook, has_failed};
 ghost use Rattle.simplex_member.specs.Allowed.{Allowed};
 ghost use Rattle.simplex_member.specs.declared.fault.NodeFault.{NodeFault};
@@ -9,12 +9,14 @@ ghost use Rattle.simplex_member.specs.Packet.{of_certificate};
 ghost use Rattle.simplex_member.specs.Point.{Came};
 ghost use Rattle.node_core.specs.Keeps.{AtOwn, CoreKeeps, book_of, disks_of};
 ghost use Rattle.node_core.specs.Taking.{IsLeftBy, IsTaken};
+ghost use Rattle.node_requests.specs.Room.{HasRoomForAsks};
 
 use journal_single::Disk;
 use messages_certificates::Certificate;
 use node_core::{Core, tell_voter, tell_votes, update_repair, what_is_not_recorded_is_unknown};
 use node_inbox::record;
 use node_record::a_ledger_at_rest_leaves_its_record;
+use node_requests::make_room_for_asks;
 use simplex_member::{Action, NodeFault, Speaks, what_is_kept_stands_for_all};
 use types_core::{Digest, Scheme};
 use types_terms::Elector;
@@ -52,17 +54,18 @@ pub(crate) fn take_certificate<S: Scheme<D> + Drop, L: Elector<S, D>, D: Digest,
 {
     let was = core.voter.current_view();
     let low = core.voter.last_finalized();
-    match learn(core, &certificate) {
+    match learn(core, &certificate, out) {
         Ok(()) => core.hand_certificate(was, low, certificate, bytes, out),
         Err(fault) => Err(fault),
     }
 }
 
-/// All layers learn of a certificate that passed all tests, and it is recorded.
+/// All layers learn of a certificate that passed all tests, and it is recorded, once there is room for the asks that may follow.
 #[tactic(auto, using(journal_books::specs::BooksLaws::same_not_failed))]
 fn learn<S: Scheme<D> + Drop, L: Elector<S, D>, D: Digest, K: Disk>(
     core: &mut Core<S, L, D, K>,
     certificate: &Certificate<S, D>,
+    out: &mut Vec<Action<S, D>>,
 ) -> Result<(), NodeFault>
     ensures taken { OnOk result (AtOwn S.Scheme L.Elector K.Disk ⟦<S as Speaks<D>>⟧.formats core.old (λ f s h.
         Allowed S.Scheme f s h (Came certificate.now) → CoreKeeps S.Scheme L.Elector K.Disk f s core.new (Came certificate.now ∷ h))) }
@@ -70,6 +73,11 @@ fn learn<S: Scheme<D> + Drop, L: Elector<S, D>, D: Digest, K: Disk>(
         Allowed S.Scheme f s h (Came certificate.now)
         → K.keeps
         → LeaveBook K.Disk (book_of core.old) (book_of core.new) (IsLeftBy S.Scheme f s h (Came certificate.now))) }
+
+    // Where the asks that may follow have no room, nothing is recorded.
+    ensures room { ¬ HasRoomForAsks core.new.settings.repair.window core.new.repair (vec_len out.new) (vec_capacity out.new)
+        → book_of core.new ≡ book_of core.old }
+    ensures same { out.new.items ≡ out.old.items }
     ensures device { IsErrOf result NodeFault.Device → HasFailed K.Disk (disks_of core.old) (disks_of core.new) }
     ensures no_device { IfErr result (λ why. why ≢ step_fault.Device → HasNotFailed K.Disk (disks_of core.old) (disks_of core.new)) }
     ensures no_fault { OnOk result (HasNotFailed K.Disk (disks_of core.old) (disks_of core.new)) }
@@ -81,14 +89,18 @@ fn learn<S: Scheme<D> + Drop, L: Elector<S, D>, D: Digest, K: Disk>(
     a_ledger_at_rest_leaves_its_record::<S, D, K>();
     let alloc = core.settings.alloc;
     let now = core.tables.moment();
+    match update_repair(alloc, certificate, &mut core.repair) {
+        Ok(()) => {}
+        Err(fault) => return Err(fault),
+    }
+    match make_room_for_asks(core.settings.repair, &core.repair, out) {
+        Ok(()) => {}
+        Err(fault) => return Err(fault),
+    }
     let Ok(artifact) = tell_voter(alloc, now, certificate, &mut core.voter) else {
         return Err(NodeFault::Memory);
     };
     match record(&mut core.ledger, artifact) {
-        Ok(()) => {}
-        Err(fault) => return Err(fault),
-    }
-    match update_repair(alloc, certificate, &mut core.repair) {
         Ok(()) => {}
         Err(fault) => return Err(fault),
     }

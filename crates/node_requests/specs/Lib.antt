@@ -10,3 +10,4 @@ pub mod Waking
 pub mod Polling
 pub mod Following
 pub mod Leading
+pub mod Room

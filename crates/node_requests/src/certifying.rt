@@ -88,7 +88,7 @@ fn fetch_parents<S: Scheme<D>, D: Digest>(
             ask: Ask::ancestry(Kind::Notarization),
             to: None,
         };
-        match fetch(alloc, asked, again, repair, tables, out) {
+        match fetch(alloc, asked, again, 1, repair, tables, out) {
             Ok(_) => {}
             Err(fault) => return Err(fault),
         }

@@ -2,11 +2,13 @@
 
 ghost use Rattle.std.specs.Prelude.{◌≡◌, ◌+◌, None, Some, IfErr, IfOk, IfSome, option_map};
 ghost use Rattle.simplex_member.specs.declared.fault.NodeFault.TheVariants as step_fault;
+ghost use Rattle.node_requests.specs.declared.acted.Acted.TheVariants as came;
 ghost use Rattle.node_requests.specs.Fetching.{ArePending, AtRepairer, ComesToFetch};
 ghost use Rattle.node_requests.specs.NoneDue.{NoneToAskAgain, NoViewToAsk};
 
 use crate::acted::Acted;
 use crate::fetching::fetch;
+use crate::room::most_asks;
 use node_record::Tables;
 use simplex_member::{Action, Asked, NodeFault, Speaks, repair_and_voter_finalize_alike};
 use simplex_resolver::{Ask, State as Repair};
@@ -15,7 +17,8 @@ use types_core::{Digest, Scheme};
 use voter_rules::config::{Again, RepairPolicy};
 
 /// Asks all for the views that the member has to repair, each that wasn't asked for before, or is asked for again: for as many
-/// as its window has, the lowest first. It goes over no more of them, and makes room for their asks before the first.
+/// as its window has, the lowest first. It goes over no more of them. Before the first ask it makes room for as many as may come: so much may
+/// be missing that only a refusal ends that, and it is to come before the work. Where none is due it makes none.
 ///
 /// # Errors
 ///
@@ -30,62 +33,25 @@ pub fn ask_for_views<S: Scheme<D>, D: Digest>(
     ensures acts { IfOk result (λ acted.
         AtRepairer S.Scheme ⟦<S as Speaks<D>>⟧.formats repair.now tables.old (λ f s h.
         s.repair ≡ policy → ComesToFetch S.Scheme f s (NoViewToAsk S.Scheme f s) tables.new h out.old.items out.new.items acted)) }
-    ensures fault { IfErr result (λ why. why ≡ step_fault.Memory) }
-{
-    make_room(policy, repair, out)?;
-    ask_for_each_view(alloc, policy, repair, tables, out)
-}
-
-/// Makes room for as many asks as may come: so much may be missing that only a refusal ends that, and it is to come before the work.
-///
-/// # Errors
-///
-/// [`NodeFault::Memory`].
-fn make_room<S: Scheme<D>, D: Digest>(
-    policy: RepairPolicy,
-    repair: &Repair,
-    out: &mut Vec<Action<S, D>>,
-) -> Result<(), NodeFault>
-    ensures same { out.new.items ≡ out.old.items }
-    ensures fault { IfErr result (λ why. why ≡ step_fault.Memory) }
-{
-    let most = repair.most_outstanding();
-    let room = match policy.window {
-        Some(views) => most.min(views),
-        None => most,
-    };
-    match out.reserve(room as usize) {
-        Ok(()) => Ok(()),
-        Err(_) => Err(NodeFault::Memory),
-    }
-}
-
-/// Asks all for these views, where there is room.
-fn ask_for_each_view<S: Scheme<D>, D: Digest>(
-    alloc: Global,
-    policy: RepairPolicy,
-    repair: &Repair,
-    tables: &mut Tables<S, D>,
-    out: &mut Vec<Action<S, D>>,
-) -> Result<Acted, NodeFault>
-    ensures acts { IfOk result (λ acted.
-        AtRepairer S.Scheme ⟦<S as Speaks<D>>⟧.formats repair.now tables.old (λ f s h.
-        s.repair ≡ policy → ComesToFetch S.Scheme f s (NoViewToAsk S.Scheme f s) tables.new h out.old.items out.new.items acted)) }
+    ensures no_room { IfOk result (λ acted. acted ≡ came.Nothing → out.new ≡ out.old) }
     ensures fault { IfErr result (λ why. why ≡ step_fault.Memory) }
 {
     let mut acted = Acted::Nothing;
     let mut left = policy.window;
+    let mut ahead = most_asks(policy, repair);
     'views: for view in repair.outstanding() {
         let Some(rest) = behind_one(left) else {
             return Ok(acted);
         };
         left = rest;
+        let room = ahead;
+        ahead = ahead.saturating_sub(1);
         let asked = Asked {
             view,
             ask: Ask::backfill(),
             to: None,
         };
-        match fetch(alloc, asked, policy.again, repair, tables, out) {
+        match fetch(alloc, asked, policy.again, room, repair, tables, out) {
             Ok(true) => acted = Acted::Did,
             Ok(false) => {}
             Err(fault) => return Err(fault),
@@ -153,7 +119,7 @@ fn ask_each_again<S: Scheme<D>, D: Digest>(
     repair_and_voter_finalize_alike::<S, D>();
     let mut acted = Acted::Nothing;
     for asked in pending {
-        let sent = fetch(alloc, *asked, again, repair, tables, out)?;
+        let sent = fetch(alloc, *asked, again, 1, repair, tables, out)?;
         if sent {
             acted = Acted::Did;
         }

@@ -101,6 +101,7 @@ fn ask_what_is_wanted<S: Scheme<D> + Drop, L: Elector<S, D>, D: Digest>(
             alloc,
             lacked_by(voter, proposal, view, kind),
             again,
+            1,
             repair,
             tables,
             out,

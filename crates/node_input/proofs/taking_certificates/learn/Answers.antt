@@ -17,31 +17,46 @@ use Rattle.node_core.specs.Leaving.{left_at_rest, left_by}
 use Rattle.node_input.proofs.taking_certificates.learn.Goals as goal
 
 -- nothing was asked of the disk
+pub returns-in-Err-clause-any_moment : goal.returns-in-Err-clause-any_moment
+returns-in-Err-clause-any_moment g c = λ s h k allowed keeps.
+    let f = formats {S = g.row.S.Denot} {P = g.row.S-PublicKey.Denot} g.D.PartialEq.eq g.D.Write.spelling g.S.Signature.Write.spelling g.S.Certificate.Write.spelling g.D.Read.reading g.S.Signature.Read.reading g.S.Certificate.Read.reading (g.S.Scheme.size s.voter.scheme) in
+    left_at_rest g.S.Scheme f s g.K.Disk h (Came c.args.certificate.now) _ _ (c.a_ledger_at_rest_leaves_its_record.ensures (owner_of s) c.args.core.now.ledger (kept_of s.voter.length h) k.ledger keeps)
+
+pub returns-in-Err-make_room_for_asks-clause-any_moment : goal.returns-in-Err-make_room_for_asks-clause-any_moment
+returns-in-Err-make_room_for_asks-clause-any_moment g c = λ s h k allowed keeps.
+    let f = formats {S = g.row.S.Denot} {P = g.row.S-PublicKey.Denot} g.D.PartialEq.eq g.D.Write.spelling g.S.Signature.Write.spelling g.S.Certificate.Write.spelling g.D.Read.reading g.S.Signature.Read.reading g.S.Certificate.Read.reading (g.S.Scheme.size s.voter.scheme) in
+    left_at_rest g.S.Scheme f s g.K.Disk h (Came c.args.certificate.now) _ _ (c.a_ledger_at_rest_leaves_its_record.ensures (owner_of s) c.args.core.now.ledger (kept_of s.voter.length h) k.ledger keeps)
+
 pub returns-in_default-clause-any_moment : goal.returns-in_default-clause-any_moment
 returns-in_default-clause-any_moment g c = λ s h k allowed keeps.
     let f = formats {S = g.row.S.Denot} {P = g.row.S-PublicKey.Denot} g.D.PartialEq.eq g.D.Write.spelling g.S.Signature.Write.spelling g.S.Certificate.Write.spelling g.D.Read.reading g.S.Signature.Read.reading g.S.Certificate.Read.reading (g.S.Scheme.size s.voter.scheme) in
     left_at_rest g.S.Scheme f s g.K.Disk h (Came c.args.certificate.now) _ _ (c.a_ledger_at_rest_leaves_its_record.ensures (owner_of s) c.args.core.now.ledger (kept_of s.voter.length h) k.ledger keeps)
 
 -- behind that the record grew, or it did not
-pub returns-in-Err-clause-any_moment : goal.returns-in-Err-clause-any_moment
-returns-in-Err-clause-any_moment g c = λ s h k allowed keeps.
+pub returns-in-Err-record-clause-any_moment : goal.returns-in-Err-record-clause-any_moment
+returns-in-Err-record-clause-any_moment g c = λ s h k allowed keeps.
     let f = formats {S = g.row.S.Denot} {P = g.row.S-PublicKey.Denot} g.D.PartialEq.eq g.D.Write.spelling g.S.Signature.Write.spelling g.S.Certificate.Write.spelling g.D.Read.reading g.S.Signature.Read.reading g.S.Certificate.Read.reading (g.S.Scheme.size s.voter.scheme) in
-    left_by g.S.Scheme f s g.K.Disk h (Came c.args.certificate.now) c.in-Ok.artifact _ _ (ap Some (sym c.in-Ok.ensures.copy)) allowed (c.record.ensures.any_moment (owner_of s) (kept_of s.voter.length h) k.ledger keeps)
-
-pub returns-in-Err-update_repair-clause-any_moment : goal.returns-in-Err-update_repair-clause-any_moment
-returns-in-Err-update_repair-clause-any_moment g c = λ s h k allowed keeps.
-    let f = formats {S = g.row.S.Denot} {P = g.row.S-PublicKey.Denot} g.D.PartialEq.eq g.D.Write.spelling g.S.Signature.Write.spelling g.S.Certificate.Write.spelling g.D.Read.reading g.S.Signature.Read.reading g.S.Certificate.Read.reading (g.S.Scheme.size s.voter.scheme) in
-    left_by g.S.Scheme f s g.K.Disk h (Came c.args.certificate.now) c.in-Ok.artifact _ _ (ap Some (sym c.in-Ok.ensures.copy)) allowed (c.record.ensures.any_moment (owner_of s) (kept_of s.voter.length h) k.ledger keeps)
+    left_by g.S.Scheme f s g.K.Disk h (Came c.args.certificate.now) c.in-Ok-tell_voter.artifact _ _ (ap Some (sym c.in-Ok-tell_voter.ensures.copy)) allowed (c.record.ensures.any_moment (owner_of s) (kept_of s.voter.length h) k.ledger keeps)
 
 pub returns-in-Err-tell_votes-clause-any_moment : goal.returns-in-Err-tell_votes-clause-any_moment
 returns-in-Err-tell_votes-clause-any_moment g c = λ s h k allowed keeps.
     let f = formats {S = g.row.S.Denot} {P = g.row.S-PublicKey.Denot} g.D.PartialEq.eq g.D.Write.spelling g.S.Signature.Write.spelling g.S.Certificate.Write.spelling g.D.Read.reading g.S.Signature.Read.reading g.S.Certificate.Read.reading (g.S.Scheme.size s.voter.scheme) in
-    left_by g.S.Scheme f s g.K.Disk h (Came c.args.certificate.now) c.in-Ok.artifact _ _ (ap Some (sym c.in-Ok.ensures.copy)) allowed (c.record.ensures.any_moment (owner_of s) (kept_of s.voter.length h) k.ledger keeps)
+    left_by g.S.Scheme f s g.K.Disk h (Came c.args.certificate.now) c.in-Ok-tell_voter.artifact _ _ (ap Some (sym c.in-Ok-tell_voter.ensures.copy)) allowed (c.record.ensures.any_moment (owner_of s) (kept_of s.voter.length h) k.ledger keeps)
 
 pub returns-clause-any_moment : goal.returns-clause-any_moment
 returns-clause-any_moment g c = λ s h k allowed keeps.
     let f = formats {S = g.row.S.Denot} {P = g.row.S-PublicKey.Denot} g.D.PartialEq.eq g.D.Write.spelling g.S.Signature.Write.spelling g.S.Certificate.Write.spelling g.D.Read.reading g.S.Signature.Read.reading g.S.Certificate.Read.reading (g.S.Scheme.size s.voter.scheme) in
-    left_by g.S.Scheme f s g.K.Disk h (Came c.args.certificate.now) c.in-Ok.artifact _ _ (ap Some (sym c.in-Ok.ensures.copy)) allowed (c.record.ensures.any_moment (owner_of s) (kept_of s.voter.length h) k.ledger keeps)
+    left_by g.S.Scheme f s g.K.Disk h (Came c.args.certificate.now) c.in-Ok-tell_voter.artifact _ _ (ap Some (sym c.in-Ok-tell_voter.ensures.copy)) allowed (c.record.ensures.any_moment (owner_of s) (kept_of s.voter.length h) k.ledger keeps)
+
+-- the record grew only behind the room
+pub returns-in-Err-record-clause-room : goal.returns-in-Err-record-clause-room
+returns-in-Err-record-clause-room g c = λ none. absurd (none c.in-Ok-make_room_for_asks.ensures.room)
+
+pub returns-in-Err-tell_votes-clause-room : goal.returns-in-Err-tell_votes-clause-room
+returns-in-Err-tell_votes-clause-room g c = λ none. absurd (none c.in-Ok-make_room_for_asks.ensures.room)
+
+pub returns-clause-room : goal.returns-clause-room
+returns-clause-room g c = λ none. absurd (none c.in-Ok-make_room_for_asks.ensures.room)
 
 pub returns-clause-taken : goal.returns-clause-taken
 returns-clause-taken g c = λ s h k allowed.
@@ -51,8 +66,8 @@ returns-clause-taken g c = λ s h k allowed.
     let room = room_of s.voter.length (entries (record_of h)) x follows in
     let unknown = c.what_is_not_recorded_is_unknown.ensures f s h x k.allowed (begun_some h k.begun) (first_of s.voter.length (entries (record_of h)) x follows) in
     let now : c.moment-now.result ≡ latest h = c.moment-now.ensures (finalized_of s h) h k.tables in
-    let voter = subst (λ (t : ℕ). voting.Keeps g.S.Scheme g.L.Elector s.voter c.tell_voter.new.voter (takes_certificate t (finalized_of s h) x ++ voter_of s h)) now (c.in-Ok.ensures.told s.voter (voter_of s h) k.voter room unknown) in
-    let kept = c.in-Ok-record.ensures.keeps (owner_of s) (kept_of s.voter.length h) k.ledger (subst (λ (a : Artifact g.row.S.Denot g.row.D.Denot g.row.S-PublicKey.Denot g.row.S-Signature.Denot g.row.S-Certificate.Denot). MayFollow s.voter.length (entries (kept_of s.voter.length h)) (entry a)) (sym c.in-Ok.ensures.copy) (c.what_is_kept_stands_for_all.ensures.fits f s h (Came x) (certificate_artifact x) (allowed, k.allowed) refl).follows) in
+    let voter = subst (λ (t : ℕ). voting.Keeps g.S.Scheme g.L.Elector s.voter c.tell_voter.new.voter (takes_certificate t (finalized_of s h) x ++ voter_of s h)) now (c.in-Ok-tell_voter.ensures.told s.voter (voter_of s h) k.voter room unknown) in
+    let kept = c.in-Ok-record.ensures.keeps (owner_of s) (kept_of s.voter.length h) k.ledger (subst (λ (a : Artifact g.row.S.Denot g.row.D.Denot g.row.S-PublicKey.Denot g.row.S-Signature.Denot g.row.S-Certificate.Denot). MayFollow s.voter.length (entries (kept_of s.voter.length h)) (entry a)) (sym c.in-Ok-tell_voter.ensures.copy) (c.what_is_kept_stands_for_all.ensures.fits f s h (Came x) (certificate_artifact x) (allowed, k.allowed) refl).follows) in
     let final : c.last_finalized.result ≡ finalized_of s (Came x ∷ h) = c.last_finalized.ensures.value s.voter (voter_of s (Came x ∷ h)) voter in
     record {
       begun = k.begun;
@@ -60,7 +75,7 @@ returns-clause-taken g c = λ s h k allowed.
       set_up = k.set_up;
       voter = voter;
       votes = c.in-Ok-tell_votes.ensures.told s h k.votes room voter;
-      repair = c.in-Ok-update_repair.ensures.told s.voter.length (repair_of f h) k.repair room;
-      ledger = subst (λ (a : Artifact g.row.S.Denot g.row.D.Denot g.row.S-PublicKey.Denot g.row.S-Signature.Denot g.row.S-Certificate.Denot). KeepsRecord g.K.Disk f.artifact (owner_of s) c.record.new.ledger (kept_of s.voter.length h ++ a ∷ [])) c.in-Ok.ensures.copy kept;
+      repair = c.in-Ok.ensures.told s.voter.length (repair_of f h) k.repair room;
+      ledger = subst (λ (a : Artifact g.row.S.Denot g.row.D.Denot g.row.S-PublicKey.Denot g.row.S-Signature.Denot g.row.S-Certificate.Denot). KeepsRecord g.K.Disk f.artifact (owner_of s) c.record.new.ledger (kept_of s.voter.length h ++ a ∷ [])) c.in-Ok-tell_voter.ensures.copy kept;
       tables = subst (λ (n : ℕ). KeepsTables n c.forget.new.self (Came x ∷ h)) final (c.forget.ensures (finalized_of s h) (Came x ∷ h) k.tables (subst (λ (n : ℕ). finalized_of s h ≤ n) (sym final) (rises (latest h) (finalized_of s h) x (voter_of s h))));
     }

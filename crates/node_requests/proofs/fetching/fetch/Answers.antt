@@ -29,3 +29,6 @@ returns-in-Ok-clause-fetches g c = IfOk-weaker c.send_ask.result _ _ (λ sent sa
     went in
     subst (λ (b : Bool). Fetches f s c.add_ask.new.self h a c.args.out.now.items c.send_ask.new.out.items b) (sym said.0)
     (first, c.in-Ok.ensures.keeps (finalized_of s h) h tables above, said.1 n)) c.send_ask.ensures.sent
+
+pub returns-in-Ok-clause-no_room : goal.returns-in-Ok-clause-no_room
+returns-in-Ok-clause-no_room g c = IfOk-weaker c.send_ask.result _ _ (λ sent said is. absurd (false≢true (sym is ∙ said.0))) c.send_ask.ensures.sent

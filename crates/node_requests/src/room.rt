@@ -1,0 +1,59 @@
+//! Room for asks, in what is handed out.
+
+ghost use Rattle.std.specs.Prelude.{◌≡◌, ◌+◌, ◌≤◌, IfErr, OnOk, vec_capacity, vec_len};
+ghost use Rattle.simplex_member.specs.declared.fault.NodeFault.TheVariants as step_fault;
+ghost use Rattle.simplex_resolver.specs.Keeps.{AtEach};
+ghost use Rattle.node_requests.specs.Room.{HasRoomForAsks, most_asks};
+
+use simplex_member::{Action, NodeFault};
+use simplex_resolver::State as Repair;
+use types_core::{Digest, Scheme};
+use voter_rules::config::RepairPolicy;
+
+/// Makes room for as many asks as may come for views to leave behind, as [`most_asks`] counts them.
+///
+/// # Errors
+///
+/// [`NodeFault::Memory`].
+pub fn make_room_for_asks<S: Scheme<D>, D: Digest>(
+    policy: RepairPolicy,
+    repair: &Repair,
+    out: &mut Vec<Action<S, D>>,
+) -> Result<(), NodeFault>
+    ensures same { out.new.items ≡ out.old.items }
+    ensures room { OnOk result (HasRoomForAsks policy.window repair.now (vec_len out.new) (vec_capacity out.new)) }
+    ensures fault { IfErr result (λ why. why ≡ step_fault.Memory) }
+{
+    make_room(most_asks(policy, repair), out)
+}
+
+/// How many asks for views to leave behind may come, by what is outstanding and by the window: one more at most for the term of the floor,
+/// and one for each false verdict.
+pub(crate) fn most_asks(policy: RepairPolicy, repair: &Repair) -> u64
+    ensures { AtEach repair.now (λ views h. result ≡ most_asks policy.window views h) }
+{
+    let most = repair.most_outstanding();
+    match policy.window {
+        Some(views) => most.min(views),
+        None => most,
+    }
+}
+
+/// Makes room for so many actions behind those that are there.
+///
+/// # Errors
+///
+/// [`NodeFault::Memory`].
+pub(crate) fn make_room<S: Scheme<D>, D: Digest>(
+    actions: u64,
+    out: &mut Vec<Action<S, D>>,
+) -> Result<(), NodeFault>
+    ensures same { out.new.items ≡ out.old.items }
+    ensures room { OnOk result (vec_len out.new + actions ≤ vec_capacity out.new) }
+    ensures fault { IfErr result (λ why. why ≡ step_fault.Memory) }
+{
+    match out.reserve(actions as usize) {
+        Ok(()) => Ok(()),
+        Err(_) => Err(NodeFault::Memory),
+    }
+}
