@@ -8,7 +8,7 @@ ghost use Rattle.node_requests.specs.NoneDue.{NoneToAskAgain, NoViewToAsk};
 
 use crate::acted::Acted;
 use crate::fetching::fetch;
-use crate::room::most_asks;
+use crate::room::asks_ahead;
 use node_record::Tables;
 use simplex_member::{Action, Asked, NodeFault, Speaks, repair_and_voter_finalize_alike};
 use simplex_resolver::{Ask, State as Repair};
@@ -38,7 +38,7 @@ pub fn ask_for_views<S: Scheme<D>, D: Digest>(
 {
     let mut acted = Acted::Nothing;
     let mut left = policy.window;
-    let mut ahead = most_asks(policy, repair);
+    let mut ahead = asks_ahead(policy, repair);
     'views: for view in repair.outstanding() {
         let Some(rest) = behind_one(left) else {
             return Ok(acted);

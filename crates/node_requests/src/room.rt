@@ -3,14 +3,15 @@
 ghost use Rattle.std.specs.Prelude.{◌≡◌, ◌+◌, ◌≤◌, IfErr, OnOk, vec_capacity, vec_len};
 ghost use Rattle.simplex_member.specs.declared.fault.NodeFault.TheVariants as step_fault;
 ghost use Rattle.simplex_resolver.specs.Keeps.{AtEach};
-ghost use Rattle.node_requests.specs.Room.{HasRoomForAsks, most_asks};
+ghost use Rattle.node_requests.specs.Room.{HasRoomForAsks, asks_ahead};
 
 use simplex_member::{Action, NodeFault};
 use simplex_resolver::State as Repair;
 use types_core::{Digest, Scheme};
 use voter_rules::config::RepairPolicy;
 
-/// Makes room for as many asks as may come for views to leave behind, as [`most_asks`] counts them.
+/// Makes room for the asks for views to leave behind that are ahead: as many as terms begin between the floor and the highest certificate,
+/// or as the window has, if that is less.
 ///
 /// # Errors
 ///
@@ -24,13 +25,13 @@ pub fn make_room_for_asks<S: Scheme<D>, D: Digest>(
     ensures room { OnOk result (HasRoomForAsks policy.window repair.now (vec_len out.new) (vec_capacity out.new)) }
     ensures fault { IfErr result (λ why. why ≡ step_fault.Memory) }
 {
-    make_room(most_asks(policy, repair), out)
+    make_room(asks_ahead(policy, repair), out)
 }
 
-/// How many asks for views to leave behind may come, by what is outstanding and by the window: one more at most for the term of the floor,
-/// and one for each false verdict.
-pub(crate) fn most_asks(policy: RepairPolicy, repair: &Repair) -> u64
-    ensures { AtEach repair.now (λ views h. result ≡ most_asks policy.window views h) }
+/// How many asks for views to leave behind are ahead, by what is outstanding and by the window. One more may come for the floor's term, and
+/// one for each false verdict.
+pub(crate) fn asks_ahead(policy: RepairPolicy, repair: &Repair) -> u64
+    ensures { AtEach repair.now (λ views h. result ≡ asks_ahead policy.window views h) }
 {
     let most = repair.most_outstanding();
     match policy.window {
