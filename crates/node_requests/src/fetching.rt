@@ -73,7 +73,7 @@ fn send_ask<S: Scheme<D>, D: Digest>(
     ensures fault { IfErr result (λ why. why ≡ step_fault.Memory) }
 {
     make_room(ahead.max(1), out)?;
-    match ask_for(alloc, view, to) {
+    match ask_for::<S, D>(alloc, view, to) {
         Ok(ask) => {
             out.push_reserved(ask);
             Ok(true)

@@ -3,7 +3,7 @@
 ghost use Rattle.std.specs.Prelude.{◌≡◌, ◌+◌, ◌≤◌, IfErr, OnOk, vec_capacity, vec_len};
 ghost use Rattle.simplex_member.specs.declared.fault.NodeFault.TheVariants as step_fault;
 ghost use Rattle.simplex_resolver.specs.Keeps.{AtEach};
-ghost use Rattle.node_requests.specs.Room.{HasRoomForAsks, asks_ahead};
+ghost use Rattle.node_requests.specs.Room.{HasRoomForAsks, asks_ahead, in_window};
 
 use simplex_member::{Action, NodeFault};
 use simplex_resolver::State as Repair;
@@ -33,10 +33,16 @@ pub fn make_room_for_asks<S: Scheme<D>, D: Digest>(
 pub(crate) fn asks_ahead(policy: RepairPolicy, repair: &Repair) -> u64
     ensures { AtEach repair.now (λ views h. result ≡ asks_ahead policy.window views h) }
 {
-    let most = repair.most_outstanding();
-    match policy.window {
-        Some(views) => most.min(views),
-        None => most,
+    in_window(policy.window, repair.most_outstanding())
+}
+
+/// So many, or as many as the window has, if that is less.
+fn in_window(window: Option<u64>, many: u64) -> u64
+    ensures { result ≡ in_window window many }
+{
+    match window {
+        Some(views) => many.min(views),
+        None => many,
     }
 }
 
