@@ -1,6 +1,6 @@
 -- At which history a node stands, while no step of it has failed. Each part speaks of a field's value: what does not change needs no
 -- proof.
-use Rattle.std.specs.Prelude.{◌≡◌, ℕ, true}
+use Rattle.std.specs.Prelude.{◌≡◌, ◌≤◌, ℕ, true}
 use Rattle.types_core.specs.declared.scheme.Scheme.{Ghosts}
 use Rattle.types_terms.specs.declared.elector.Elector as elector
 use Rattle.simplex_state.specs.State as voting
@@ -50,3 +50,11 @@ module _ {S L D P G C K : Type 0} (g : Ghosts S D P G C) (e : elector.Ghosts L S
   -- what holds of each history that leads here, where values are compared, spelled and read as in a committee of its size
   abbrev pub AtOwn : (ℕ → Formats S D P G C) → Core S L D K P G C → (Formats S D P G C → Setup S D C → History S D P G C → Type 0) → Type 0
   AtOwn formats node Holds = (s : Setup S D C) (h : History S D P G C) → CoreKeeps (formats (g.size s.voter.scheme)) s node h → Holds (formats (g.size s.voter.scheme)) s h
+
+  -- a history leads here, of a member whose committee a record has room for, and this holds of it: it can't be that of none it does
+  abbrev pub AtSome : (ℕ → Formats S D P G C) → Core S L D K P G C → (Formats S D P G C → Setup S D C → History S D P G C → Type 0) → Type 0
+  AtSome formats node Holds = ¬ AtOwn formats node (λ f s h. g.size s.voter.scheme ≤ 65535 → ¬ Holds f s h)
+
+  -- some history leads here, of such a member: it can't be that none does
+  abbrev pub IsLed : (ℕ → Formats S D P G C) → Core S L D K P G C → Type 0
+  IsLed formats node = ¬ AtOwn formats node (λ f s h. ¬ g.size s.voter.scheme ≤ 65535)

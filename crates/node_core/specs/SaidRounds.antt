@@ -1,5 +1,6 @@
--- An artifact is of the round of the vote or the certificate that it says.
-use Rattle.std.specs.Prelude.{◌≡◌, refl}
+-- An artifact is of the round of the vote or the certificate that it says, and of its epoch.
+use Rattle.std.specs.Prelude.{◌≡◌, ℕ, refl}
+use Rattle.types_core.specs.Subject.{Statement}
 use Rattle.messages_certificates.specs.declared.certificate.Certificate.{Certificate}
 use Rattle.messages_certificates.specs.declared.certificate.Certificate.TheVariants as certificate
 use Rattle.messages_certificates.specs.Artifact.{artifact_round, certificate_artifact}
@@ -7,6 +8,8 @@ use Rattle.messages_certificates.specs.Certificate.{certificate_round}
 use Rattle.simplex_messages.specs.declared.vote.Vote.{Vote}
 use Rattle.simplex_messages.specs.declared.vote.Vote.TheVariants as vote
 use Rattle.simplex_messages.specs.VoteParts.{vote_artifact, vote_round}
+use Rattle.simplex_record.specs.declared.owner.Owner.{Owner}
+use Rattle.simplex_record.specs.Lawful.{Verifies}
 
 module _ {S D P G C : Type 0} where
   pub of_vote : (v : Vote S D P G C) → artifact_round (vote_artifact v) ≡ vote_round v
@@ -18,3 +21,9 @@ module _ {S D P G C : Type 0} where
   of_certificate (certificate.Notarization c) = refl
   of_certificate (certificate.Nullification c) = refl
   of_certificate (certificate.Finalization c) = refl
+
+  -- a certificate that verifies is of the epoch
+  pub of-epoch : (attests : ℕ → Statement D → G → Type 0) (certifies : Statement D → C → Type 0) (owner : Owner) (c : Certificate S D P G C) → Verifies attests certifies owner (certificate_artifact c) → (certificate_round c).epoch ≡ owner.epoch
+  of-epoch attests certifies owner (certificate.Notarization c) its = its.epoch
+  of-epoch attests certifies owner (certificate.Nullification c) its = its.epoch
+  of-epoch attests certifies owner (certificate.Finalization c) its = its.epoch

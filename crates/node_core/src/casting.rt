@@ -4,7 +4,7 @@ ghost use Rattle.std.specs.Prelude.{◌≡◌, ◌∷◌, Some, IfErr, IfOk};
 ghost use Rattle.batcher_admission.specs.Evidence.{as_report};
 ghost use Rattle.simplex_messages.specs.VoteParts.{vote_round};
 ghost use Rattle.node_votes.specs.KeepsVotes as accepting;
-ghost use Rattle.node_votes.specs.KeepsVotes.{IsNewVote, IsOpenTo};
+ghost use Rattle.node_votes.specs.KeepsVotes.{AtSome, IsNewVote, IsOpenTo};
 ghost use Rattle.simplex_member.specs.declared.fault.NodeFault.TheVariants as step_fault;
 ghost use Rattle.simplex_member.specs.Point.{Votes};
 
@@ -22,6 +22,7 @@ pub fn tell_own_vote<S: Scheme<D> + Drop, D: Digest>(
     vote: Vote<S, D>,
     acceptance: &mut Acceptance<S, D>,
 ) -> Result<Option<Activity<S, D>>, NodeFault>
+    requires { AtSome S.Scheme D.PartialEq.eq acceptance.old (λ s h. IsNewVote S.Scheme s h vote) }
     ensures told { IfOk result (λ report.
         accepting.AtEach S.Scheme D.PartialEq.eq acceptance.old (λ s h.
         IsOpenTo s h (vote_round vote)

@@ -7,6 +7,7 @@ ghost use Rattle.messages_certificates.specs.Certificate.{certificate_round};
 ghost use Rattle.voter_history.specs.History.{last_finalized};
 ghost use Rattle.simplex_state.specs.State as voting;
 ghost use Rattle.node_votes.specs.KeepsVotes as accepting;
+ghost use Rattle.node_votes.specs.KeepsVotes.{AtSome};
 ghost use Rattle.simplex_member.specs.declared.fault.NodeFault.TheVariants as step_fault;
 ghost use Rattle.simplex_member.specs.Deeds.{Finalizes, final_deeds};
 ghost use Rattle.simplex_member.specs.Layers.{finalizes_above, takes_certificate, voter_of};
@@ -71,8 +72,8 @@ pub fn tell_voter<S: Scheme<D> + Drop, L: Elector<S, D>, D: Digest>(
     Ok(artifact)
 }
 
-/// Tells the votes of all views of a certificate that came, of a view with room, once the voter was told: the view that it enters is
-/// entered.
+/// Tells the votes of all views of a certificate of the epoch that came, of a view with room, once the voter was told: the view that it
+/// enters is entered.
 ///
 /// # Errors
 ///
@@ -82,6 +83,7 @@ pub fn tell_votes<S: Scheme<D> + Drop, L: Elector<S, D>, D: Digest>(
     certificate: &Certificate<S, D>,
     acceptance: &mut Acceptance<S, D>,
 ) -> Result<(), NodeFault>
+    requires { AtSome S.Scheme D.PartialEq.eq acceptance.old (λ s h. (certificate_round certificate.now).epoch ≡ s.voter.epoch) }
     ensures told { OnOk result (accepting.AtEach S.Scheme D.PartialEq.eq acceptance.old (λ s h.
         HasRoom s.voter.length (certificate_round certificate.now).view
         → voting.Keeps S.Scheme L.Elector s.voter voter.now (voter_of s (Came certificate.now ∷ h))

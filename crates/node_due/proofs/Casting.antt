@@ -286,7 +286,8 @@ finalized_behind s (judged now view true ∷ h) = let before = finalized_behind 
 finalized_behind s (judged now view false ∷ h) = finalized_behind s h
 finalized_behind s (x ∷ h) = finalized_behind s h
 
-vote_within : {S D P G C : Type 0} (W : C → Type 0) (v : Vote S D P G C) → artifact_within W (vote_artifact v)
+-- a vote is within any bound
+pub vote_within : {S D P G C : Type 0} (W : C → Type 0) (v : Vote S D P G C) → artifact_within W (vote_artifact v)
 unfolding artifact_within
 vote_within W (vote.Notarize v) = tt
 vote_within W (vote.Nullify v) = tt

@@ -96,6 +96,16 @@ module _ {S L D P G C K : Type 0} (g : Ghosts S D P G C) (e : elector.Ghosts L S
     comes_behind (Err why) more = tt
 
 module _ {S L D P G C K : Type 0} {g : Ghosts S D P G C} {e : elector.Ghosts L S D P G C} {k : disk.Ghosts K} {f : Formats S D P G C} {s : Setup S D C} where
+  leads_by : {is_kind : Point S D P G C → Bool} {Done : History S D P G C → Type 0} {new : Core S L D K P G C} {h : History S D P G C} {before after : List (Action S D P G C)} (acted : Acted)
+      → ComesTo g e k f s is_kind Done new h before after acted → (end : History S D P G C) × CoreKeeps g e k f s new end
+  leads_by came.Did did = (did.end, did.acted.keeps)
+  leads_by came.Nothing none = (none.end, none.acted.keeps)
+
+  -- where an act leaves off that didn't fail a history leads
+  pub leads : {is_kind : Point S D P G C → Bool} {Done : History S D P G C → Type 0} {old new : Core S L D K P G C} {h : History S D P G C} {before after : List (Action S D P G C)} {acted : Acted}
+      → WasTried g e k f s is_kind Done old new h before after (Ok acted) → (end : History S D P G C) × CoreKeeps g e k f s new end
+  leads {acted = acted} tried = leads_by acted tried.ok
+
   -- of an act that did something, or failed, the kind says nothing
   pub did_so : {one both : Point S D P G C → Bool} {First Both : History S D P G C → Type 0} {old new : Core S L D K P G C} {h : History S D P G C} {before after : List (Action S D P G C)} {acted : Acted}
       → acted ≡ came.Did → WasTried g e k f s one First old new h before after (Ok acted) → WasTried g e k f s both Both old new h before after (Ok came.Did)

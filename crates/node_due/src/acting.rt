@@ -3,7 +3,7 @@
 ghost use Rattle.node_requests.specs.Asking.{is_poll, is_none, is_silent};
 ghost use Rattle.simplex_member.specs.Member.{NoneDue};
 ghost use Rattle.node_due.specs.Acting.{WasSettled, WasTried};
-ghost use Rattle.node_core.specs.Keeps.{AtOwn, book_of};
+ghost use Rattle.node_core.specs.Keeps.{AtOwn, IsLed, book_of};
 ghost use Rattle.node_due.specs.NoneDue.{NoVoteToCast, NothingByVotes, NothingMoreToAsk, NothingToAskOnProposals};
 ghost use Rattle.node_core.specs.Telling.{TellsOfBook};
 
@@ -34,6 +34,7 @@ pub fn settle<S: Scheme<D> + Drop, L: Elector<S, D>, D: Digest, K: Disk>(
     core: &mut Core<S, L, D, K>,
     out: &mut Vec<Action<S, D>>,
 ) -> Result<(), NodeFault>
+    requires { IsLed S.Scheme L.Elector K.Disk ⟦<S as Speaks<D>>⟧.formats core.old }
     ensures settled { AtOwn S.Scheme L.Elector K.Disk ⟦<S as Speaks<D>>⟧.formats core.old
         (λ f s h. WasSettled S.Scheme L.Elector K.Disk f s core.old core.new h out.old.items out.new.items result) }
     ensures faults { TellsOfBook K.Disk (book_of core.old) (book_of core.new) result }
@@ -59,6 +60,7 @@ fn act<S: Scheme<D> + Drop, L: Elector<S, D>, D: Digest, K: Disk>(
     core: &mut Core<S, L, D, K>,
     out: &mut Vec<Action<S, D>>,
 ) -> Result<Acted, NodeFault>
+    requires { IsLed S.Scheme L.Elector K.Disk ⟦<S as Speaks<D>>⟧.formats core.old }
     ensures tried { AtOwn S.Scheme L.Elector K.Disk ⟦<S as Speaks<D>>⟧.formats core.old (λ f s h.
         WasTried S.Scheme L.Elector K.Disk f s is_silent (NoneDue S.Scheme f s) core.old core.new h out.old.items out.new.items result) }
     ensures faults { TellsOfBook K.Disk (book_of core.old) (book_of core.new) result }
@@ -108,6 +110,7 @@ fn go_by_votes<S: Scheme<D> + Drop, L: Elector<S, D>, D: Digest, K: Disk>(
     core: &mut Core<S, L, D, K>,
     out: &mut Vec<Action<S, D>>,
 ) -> Result<Acted, NodeFault>
+    requires { IsLed S.Scheme L.Elector K.Disk ⟦<S as Speaks<D>>⟧.formats core.old }
     ensures tried { AtOwn S.Scheme L.Elector K.Disk ⟦<S as Speaks<D>>⟧.formats core.old (λ f s h.
         WasTried S.Scheme L.Elector K.Disk f s is_none (NothingByVotes S.Scheme f s) core.old core.new h out.old.items out.new.items result) }
     ensures faults { TellsOfBook K.Disk (book_of core.old) (book_of core.new) result }
@@ -165,6 +168,7 @@ fn vote<S: Scheme<D> + Drop, L: Elector<S, D>, D: Digest, K: Disk>(
     core: &mut Core<S, L, D, K>,
     out: &mut Vec<Action<S, D>>,
 ) -> Result<Acted, NodeFault>
+    requires { IsLed S.Scheme L.Elector K.Disk ⟦<S as Speaks<D>>⟧.formats core.old }
     ensures tried { AtOwn S.Scheme L.Elector K.Disk ⟦<S as Speaks<D>>⟧.formats core.old (λ f s h.
         WasTried S.Scheme L.Elector K.Disk f s is_poll (NoVoteToCast S.Scheme f s) core.old core.new h out.old.items out.new.items result) }
     ensures faults { TellsOfBook K.Disk (book_of core.old) (book_of core.new) result }

@@ -20,8 +20,8 @@ ghost use Rattle.simplex_member.specs.Point.{History, Votes};
 ghost use Rattle.simplex_member.specs.Setup.{Setup};
 ghost use Rattle.node_outbox.specs.Handing.{AddsDeeds};
 ghost use Rattle.node_due.specs.Acting.{WasTried};
-ghost use Rattle.node_due.specs.Ahead.{MayCome, VoterIsAhead};
-ghost use Rattle.node_core.specs.Keeps.{AtOwn, book_of};
+ghost use Rattle.node_due.specs.Ahead.{MayBeCast, MayCome, VoterIsAhead};
+ghost use Rattle.node_core.specs.Keeps.{AtOwn, AtSome, IsLed, book_of};
 ghost use Rattle.node_due.specs.NoneDue.{NoFinalizeToCast, NoNotarizeToCast, NoNullifyToCast};
 ghost use Rattle.node_core.specs.Telling.{TellsOfBook};
 ghost use Rattle.node_core.specs.Taking.{IsLeftBy, IsTaken};
@@ -56,6 +56,7 @@ pub(crate) fn try_notarize<S: Scheme<D> + Drop, L: Elector<S, D>, D: Digest, K: 
     core: &mut Core<S, L, D, K>,
     out: &mut Vec<Action<S, D>>,
 ) -> Result<Acted, NodeFault>
+    requires { IsLed S.Scheme L.Elector K.Disk ⟦<S as Speaks<D>>⟧.formats core.old }
     ensures tried { AtOwn S.Scheme L.Elector K.Disk ⟦<S as Speaks<D>>⟧.formats core.old (λ f s h.
         WasTried S.Scheme L.Elector K.Disk f s is_none (NoNotarizeToCast s) core.old core.new h out.old.items out.new.items result) }
     ensures faults { TellsOfBook K.Disk (book_of core.old) (book_of core.new) result }
@@ -83,6 +84,7 @@ pub(crate) fn try_finalize<S: Scheme<D> + Drop, L: Elector<S, D>, D: Digest, K: 
     core: &mut Core<S, L, D, K>,
     out: &mut Vec<Action<S, D>>,
 ) -> Result<Acted, NodeFault>
+    requires { IsLed S.Scheme L.Elector K.Disk ⟦<S as Speaks<D>>⟧.formats core.old }
     ensures tried { AtOwn S.Scheme L.Elector K.Disk ⟦<S as Speaks<D>>⟧.formats core.old (λ f s h.
         WasTried S.Scheme L.Elector K.Disk f s is_none (NoFinalizeToCast s) core.old core.new h out.old.items out.new.items result) }
     ensures faults { TellsOfBook K.Disk (book_of core.old) (book_of core.new) result }
@@ -109,6 +111,7 @@ pub(crate) fn try_nullify<S: Scheme<D> + Drop, L: Elector<S, D>, D: Digest, K: D
     core: &mut Core<S, L, D, K>,
     out: &mut Vec<Action<S, D>>,
 ) -> Result<Acted, NodeFault>
+    requires { IsLed S.Scheme L.Elector K.Disk ⟦<S as Speaks<D>>⟧.formats core.old }
     ensures tried { AtOwn S.Scheme L.Elector K.Disk ⟦<S as Speaks<D>>⟧.formats core.old (λ f s h.
         WasTried S.Scheme L.Elector K.Disk f s is_poll (NoNullifyToCast S.Scheme f s) core.old core.new h out.old.items out.new.items result) }
     ensures faults { TellsOfBook K.Disk (book_of core.old) (book_of core.new) result }
@@ -129,6 +132,8 @@ fn give_up<S: Scheme<D> + Drop, L: Elector<S, D>, D: Digest, K: Disk>(
     core: &mut Core<S, L, D, K>,
     out: &mut Vec<Action<S, D>>,
 ) -> Result<Acted, NodeFault>
+    requires { AtSome S.Scheme L.Elector K.Disk ⟦<S as Speaks<D>>⟧.formats core.old
+        (λ f s h. MayGiveUp s.voter (voter_of s h) (current_of s h) → NullifyIsDue s.voter (voter_of s h) (latest h)) }
     ensures tried { AtOwn S.Scheme L.Elector K.Disk ⟦<S as Speaks<D>>⟧.formats core.old (λ f s h.
         (MayGiveUp s.voter (voter_of s h) (current_of s h) → NullifyIsDue s.voter (voter_of s h) (latest h))
         → RetryIsKnown S.Scheme f s h
@@ -204,6 +209,7 @@ fn cast<S: Scheme<D> + Drop, L: Elector<S, D>, D: Digest, K: Disk>(
     vote: Vote<S, D>,
     out: &mut Vec<Action<S, D>>,
 ) -> Result<Acted, NodeFault>
+    requires { MayBeCast S.Scheme L.Elector K.Disk ⟦<S as Speaks<D>>⟧.formats core.old vote }
     ensures did { IfOk result (λ done. done ≡ came.Did) }
     ensures taken { OnOk result ((s : Setup S D S.Certificate) (h : History S D S.PublicKey S.Signature S.Certificate)
         → let f = (⟦<S as Speaks<D>>⟧.formats (S.size s.voter.scheme)) in VoterIsAhead S.Scheme L.Elector K.Disk f s core.old h (Votes vote)

@@ -1,7 +1,7 @@
 //! What is due of the votes of all views: they learn who leads, their proposals go to the voter, certificates are made.
 
-ghost use Rattle.std.specs.Prelude.{◌≡◌, ◌∷◌, ℕ, List, Some, IfErr, IfOk, OnOk};
-ghost use Rattle.messages_certificates.specs.Artifact.{artifact_fits};
+ghost use Rattle.std.specs.Prelude.{◌≡◌, ◌∷◌, ℕ, List, Some, IfErr, IfOk, IfSome, OnOk};
+ghost use Rattle.messages_certificates.specs.Artifact.{artifact_fits, certificate_artifact};
 ghost use Rattle.messages_certificates.specs.declared.certificate.Certificate.{Certificate};
 ghost use Rattle.types_terms.specs.declared.kind.Kind.{Kind};
 ghost use Rattle.batcher_verifier.specs.declared.batch.Batch.{Batch};
@@ -17,7 +17,8 @@ ghost use Rattle.simplex_member.specs.Point.{History, Constructs, Forwards};
 ghost use Rattle.simplex_member.specs.Setup.{Setup};
 ghost use Rattle.node_due.specs.Acting.{WasTried};
 ghost use Rattle.node_due.specs.Ahead.{MayCome, VotesAreAhead, VotesGoAhead};
-ghost use Rattle.node_core.specs.Keeps.{AtOwn, CoreKeeps, book_of};
+ghost use Rattle.node_core.specs.Keeps.{AtOwn, CoreKeeps, IsLed, book_of};
+ghost use Rattle.node_inbox.specs.Reading.{IsReadAgain};
 ghost use Rattle.node_requests.specs.Leading.{NoLeaderToName};
 ghost use Rattle.node_due.specs.NoneDue.{NoConstructionToMake};
 ghost use Rattle.node_core.specs.Telling.{TellsOfBook};
@@ -48,6 +49,7 @@ use types_terms::Elector;
 pub(crate) fn try_leader<S: Scheme<D> + Drop, L: Elector<S, D>, D: Digest, K: Disk>(
     core: &mut Core<S, L, D, K>,
 ) -> Result<Acted, NodeFault>
+    requires { IsLed S.Scheme L.Elector K.Disk ⟦<S as Speaks<D>>⟧.formats core.old }
     ensures tried { AtOwn S.Scheme L.Elector K.Disk ⟦<S as Speaks<D>>⟧.formats core.old (λ f s h.
         (actions : List (Action S D S.PublicKey S.Signature S.Certificate))
         → WasTried S.Scheme L.Elector K.Disk f s is_none (NoLeaderToName s) core.old core.new h actions actions result) }
@@ -67,6 +69,7 @@ pub(crate) fn try_votes_of_views<S: Scheme<D> + Drop, L: Elector<S, D>, D: Diges
     core: &mut Core<S, L, D, K>,
     out: &mut Vec<Action<S, D>>,
 ) -> Result<Acted, NodeFault>
+    requires { IsLed S.Scheme L.Elector K.Disk ⟦<S as Speaks<D>>⟧.formats core.old }
     ensures tried { AtOwn S.Scheme L.Elector K.Disk ⟦<S as Speaks<D>>⟧.formats core.old (λ f s h.
         WasTried S.Scheme L.Elector K.Disk f s is_none (NoConstructionToMake S.Scheme f s) core.old core.new h out.old.items out.new.items
         result) }
@@ -113,6 +116,7 @@ fn take_batch<S: Scheme<D> + Drop, L: Elector<S, D>, D: Digest, K: Disk>(
     batch: Batch<Certificate<S, D>>,
     out: &mut Vec<Action<S, D>>,
 ) -> Result<Acted, NodeFault>
+    requires { IfSome batch.certificate (λ made. IsReadAgain (S.Certificate.within 65535) (certificate_artifact made)) }
     ensures did { IfOk result (λ done. done ≡ came.Did) }
     ensures taken { OnOk result ((s : Setup S D S.Certificate) (h : History S D S.PublicKey S.Signature S.Certificate) (view : ℕ)
         (kind : Kind)
@@ -158,6 +162,7 @@ fn take_made<S: Scheme<D> + Drop, L: Elector<S, D>, D: Digest, K: Disk>(
     certificate: Certificate<S, D>,
     out: &mut Vec<Action<S, D>>,
 ) -> Result<(), NodeFault>
+    requires { IsReadAgain (S.Certificate.within 65535) (certificate_artifact certificate) }
     ensures keeps { OnOk result ((s : Setup S D S.Certificate) (h : History S D S.PublicKey S.Signature S.Certificate) (view : ℕ)
         (kind : Kind) (batch : Batch (Certificate S D S.PublicKey S.Signature S.Certificate))
         → let f = (⟦<S as Speaks<D>>⟧.formats (S.size s.voter.scheme)) in VotesGoAhead S.Scheme L.Elector K.Disk f s core.old h
@@ -200,6 +205,7 @@ fn learn_made<S: Scheme<D> + Drop, L: Elector<S, D>, D: Digest, K: Disk>(
     core: &mut Core<S, L, D, K>,
     certificate: &Certificate<S, D>,
 ) -> Result<(), NodeFault>
+    requires { IsReadAgain (S.Certificate.within 65535) (certificate_artifact certificate.now) }
     ensures keeps { OnOk result ((s : Setup S D S.Certificate) (h : History S D S.PublicKey S.Signature S.Certificate) (view : ℕ)
         (kind : Kind) (batch : Batch (Certificate S D S.PublicKey S.Signature S.Certificate))
         → let f = (⟦<S as Speaks<D>>⟧.formats (S.size s.voter.scheme)) in VotesGoAhead S.Scheme L.Elector K.Disk f s core.old h

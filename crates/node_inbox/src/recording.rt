@@ -10,6 +10,7 @@ ghost use Rattle.journal_books.specs.Books.{HasFailed, HasNotFailed, IsWithOrWit
 ghost use Rattle.simplex_member.specs.declared.fault.NodeFault.{NodeFault};
 ghost use Rattle.simplex_member.specs.declared.fault.NodeFault.TheVariants as step_fault;
 ghost use Rattle.node_record.specs.Ledger.{KeepsRecord, book_of, disks_of};
+ghost use Rattle.node_inbox.specs.Reading.{IsReadAgain};
 
 use journal_single::{BOUND, Disk};
 use messages_certificates::Artifact;
@@ -20,8 +21,8 @@ use types_core::{Digest, EncodeSize, Scheme};
 /// The most bytes of an artifact that a record takes, be it over one disk or over two.
 const LONGEST: usize = u32::MAX as usize - 1;
 
-/// Records an artifact that may stand behind the record. That it is not too long, and can be read again, is tested, since a disk wants
-/// to know it: each can be read again that may be recorded.
+/// Records an artifact that may stand behind the record, and that can be read again. That it is not too long is tested, since a disk
+/// wants to know it.
 ///
 /// # Errors
 ///
@@ -32,6 +33,7 @@ pub fn record<S: Scheme<D>, D: Digest, K: Disk>(
     ledger: &mut Ledger<S, D, K>,
     artifact: Artifact<S, D>,
 ) -> Result<(), NodeFault>
+    requires { IsReadAgain (S.Certificate.within 65535) artifact }
     ensures keeps { OnOk result ((owner : Owner) (xs : List (Artifact S D S.PublicKey S.Signature S.Certificate))
         → KeepsRecord K.Disk (artifact_spelling D.spelling S.Signature.spelling S.Certificate.spelling) owner ledger.old xs
         → MayFollow owner.term_length (entries xs) (entry artifact)
@@ -63,7 +65,7 @@ pub fn record<S: Scheme<D>, D: Digest, K: Disk>(
         return Err(NodeFault::Memory);
     }
     if !artifact.is_within(BOUND) {
-        return Err(NodeFault::Memory);
+        unreachable!()
     }
     ledger.record(artifact)
 }

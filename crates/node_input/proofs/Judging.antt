@@ -40,6 +40,11 @@ use Rattle.node_core.specs.declared.node_state.Core.{Core}
 use Rattle.node_core.specs.Keeps.{CoreKeeps}
 use Rattle.node_input.specs.Verdicts.{RecordIsAhead}
 
+-- a verdict is within any bound
+pub verdict_within : {S D P G C : Type 0} (W : C → Type 0) (own : Round) (ok : Bool) → artifact_within W (artifact.Certification {S} {D} {P} {G} {C} own ok)
+unfolding artifact_within
+verdict_within W own ok = tt
+
 module _ {S D P G C : Type 0} (g : Ghosts S D P G C) (f : Formats S D P G C) (s : Setup S D C) (h : History S D P G C) (r : Round) where
   -- one that is awaited may be taken
   pub verdict_allowed : (ok : Bool) → is_begun h ≡ true → IsAwaited s h r.view → IsJudgeable g f s h r → IsRecordable f (artifact.Certification r ok) → Allowed g f s h (Judged r ok)
@@ -48,8 +53,7 @@ module _ {S D P G C : Type 0} (g : Ghosts S D P G C) (f : Formats S D P G C) (s 
   -- one that has a spelling can be recorded
   pub verdict_recordable : (Spelled : Artifact S D P G C → Type 0) (W : C → Type 0) → ((x : Artifact S D P G C) → Readable Spelled (artifact_within W) x → IsRecordable f x)
       → (own : Round) (ok : Bool) → own ≡ r → Spelled (artifact.Certification own ok) → IsRecordable f (artifact.Certification r ok)
-  unfolding artifact_within
-  verdict_recordable Spelled W law own ok is spelled = subst (λ (x : Round). IsRecordable f (artifact.Certification x ok)) is (law (artifact.Certification own ok) (spelled, tt))
+  verdict_recordable Spelled W law own ok is spelled = subst (λ (x : Round). IsRecordable f (artifact.Certification x ok)) is (law (artifact.Certification own ok) (spelled, verdict_within W own ok))
 
   module _ (c : Notarization S D P G C) where
     -- it comes to the repair with the recorded notarization's bytes

@@ -5,7 +5,7 @@ ghost use Rattle.simplex_member.specs.declared.fault.NodeFault.TheVariants as st
 ghost use Rattle.simplex_member.specs.Packet.{Formats};
 ghost use Rattle.node_outbox.specs.Handing.{AddsDeeds};
 ghost use Rattle.node_input.specs.Hearing.{IsHeard, admission_deeds};
-ghost use Rattle.node_core.specs.Keeps.{AtOwn, book_of};
+ghost use Rattle.node_core.specs.Keeps.{AtOwn, AtSome, book_of};
 ghost use Rattle.node_input.specs.Refusing.{IsAnother, MayBeHeard};
 
 use journal_single::Disk;
@@ -30,6 +30,7 @@ pub(crate) fn take_vote<S: Scheme<D> + Drop, L: Elector<S, D>, D: Digest, K: Dis
     vote: Vote<S, D>,
     out: &mut Vec<Action<S, D>>,
 ) -> Result<Option<Refusal>, NodeFault>
+    requires { AtSome S.Scheme L.Elector K.Disk ⟦<S as Speaks<D>>⟧.formats core.old (λ f s h. MayBeHeard S.Scheme f s h sender vote) }
     ensures heard { IfOk result (λ refused.
         AtOwn S.Scheme L.Elector K.Disk ⟦<S as Speaks<D>>⟧.formats core.old (λ f s h.
         IsAnother S.Scheme f s sender

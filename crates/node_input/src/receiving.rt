@@ -9,7 +9,7 @@ ghost use Rattle.simplex_member.specs.Packet.{Formats};
 ghost use Rattle.simplex_member.specs.Refusals.{blocks_sender};
 ghost use Rattle.node_outbox.specs.Handing.{AddsDeeds};
 ghost use Rattle.node_input.specs.Deciding.{IsDecided};
-ghost use Rattle.node_core.specs.Keeps.{AtOwn, book_of};
+ghost use Rattle.node_core.specs.Keeps.{AtOwn, AtSome, IsLed, book_of};
 ghost use Rattle.node_input.specs.Refusing.{bytes_tests};
 ghost use Rattle.node_input.specs.Stepping.{IsHandled};
 ghost use Rattle.node_core.specs.Telling.{TellsOfBook};
@@ -36,6 +36,7 @@ pub(crate) fn handle_packet<S: Scheme<D> + Drop, L: Elector<S, D>, D: Digest, K:
     bytes: Vec<u8>,
     out: &mut Vec<Action<S, D>>,
 ) -> Result<Option<Refusal>, NodeFault>
+    requires { IsLed S.Scheme L.Elector K.Disk ⟦<S as Speaks<D>>⟧.formats core.old }
     ensures handled { AtOwn S.Scheme L.Elector K.Disk ⟦<S as Speaks<D>>⟧.formats core.old (λ f s h.
         out.old.items ≡ []
         → IsHandled S.Scheme L.Elector K.Disk f s core.old core.new h (event.Packet sender channel bytes) out.new.items result) }
@@ -57,6 +58,8 @@ fn handle_decided<S: Scheme<D> + Drop, L: Elector<S, D>, D: Digest, K: Disk>(
     bytes: Vec<u8>,
     out: &mut Vec<Action<S, D>>,
 ) -> Result<Option<Refusal>, NodeFault>
+    requires { AtSome S.Scheme L.Elector K.Disk ⟦<S as Speaks<D>>⟧.formats core.old (λ f s h.
+        (by : Channel) × IsDecided S.Scheme f s h sender (f.packet_in by bytes.items) (bytes_tests S.Scheme f s h sender by bytes.items) decided) }
     ensures handled { AtOwn S.Scheme L.Elector K.Disk ⟦<S as Speaks<D>>⟧.formats core.old (λ f s h.
         (by : Channel)
         → S.size s.voter.scheme < 2 ^ 32

@@ -2,7 +2,7 @@
 
 ghost use Rattle.std.specs.Prelude.{◌≡◌, []};
 ghost use Rattle.simplex_member.specs.declared.event.Event.TheVariants as event;
-ghost use Rattle.node_core.specs.Keeps.{AtOwn, book_of};
+ghost use Rattle.node_core.specs.Keeps.{AtOwn, IsLed, book_of};
 ghost use Rattle.node_input.specs.Stepping.{IsAnswered, IsHandled};
 ghost use Rattle.node_core.specs.Telling.{TellsOfBook};
 
@@ -24,6 +24,7 @@ pub fn answer<S: Scheme<D> + Drop, L: Elector<S, D>, D: Digest, K: Disk>(
     core: &mut Core<S, L, D, K>,
     event: Event<D>,
 ) -> Result<Reply<S, D>, NodeFault>
+    requires { IsLed S.Scheme L.Elector K.Disk ⟦<S as Speaks<D>>⟧.formats core.old }
     ensures answered { AtOwn S.Scheme L.Elector K.Disk ⟦<S as Speaks<D>>⟧.formats core.old
         (λ f s h. IsAnswered S.Scheme L.Elector K.Disk f s core.old core.new h event result) }
     ensures faults { TellsOfBook K.Disk (book_of core.old) (book_of core.new) result }
@@ -42,6 +43,7 @@ fn handle<S: Scheme<D> + Drop, L: Elector<S, D>, D: Digest, K: Disk>(
     event: Event<D>,
     out: &mut Vec<Action<S, D>>,
 ) -> Result<Option<Refusal>, NodeFault>
+    requires { IsLed S.Scheme L.Elector K.Disk ⟦<S as Speaks<D>>⟧.formats core.old }
     ensures handled { AtOwn S.Scheme L.Elector K.Disk ⟦<S as Speaks<D>>⟧.formats core.old
         (λ f s h. out.old.items ≡ [] → IsHandled S.Scheme L.Elector K.Disk f s core.old core.new h event out.new.items result) }
     ensures faults { TellsOfBook K.Disk (book_of core.old) (book_of core.new) result }

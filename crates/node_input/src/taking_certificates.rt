@@ -7,7 +7,7 @@ ghost use Rattle.simplex_member.specs.declared.fault.NodeFault.{NodeFault};
 ghost use Rattle.simplex_member.specs.declared.fault.NodeFault.TheVariants as step_fault;
 ghost use Rattle.simplex_member.specs.Packet.{of_certificate};
 ghost use Rattle.simplex_member.specs.Point.{Came};
-ghost use Rattle.node_core.specs.Keeps.{AtOwn, CoreKeeps, book_of, disks_of};
+ghost use Rattle.node_core.specs.Keeps.{AtOwn, AtSome, CoreKeeps, book_of, disks_of};
 ghost use Rattle.node_core.specs.Taking.{IsLeftBy, IsTaken};
 
 use journal_single::Disk;
@@ -32,6 +32,7 @@ pub(crate) fn take_certificate<S: Scheme<D> + Drop, L: Elector<S, D>, D: Digest,
     bytes: Vec<u8>,
     out: &mut Vec<Action<S, D>>,
 ) -> Result<(), NodeFault>
+    requires { AtSome S.Scheme L.Elector K.Disk ⟦<S as Speaks<D>>⟧.formats core.old (λ f s h. Allowed S.Scheme f s h (Came certificate)) }
     ensures taken { OnOk result (AtOwn S.Scheme L.Elector K.Disk ⟦<S as Speaks<D>>⟧.formats core.old (λ f s h.
         Allowed S.Scheme f s h (Came certificate)
         → bytes.items ≡ f.packet (of_certificate certificate)
@@ -64,6 +65,7 @@ fn learn<S: Scheme<D> + Drop, L: Elector<S, D>, D: Digest, K: Disk>(
     core: &mut Core<S, L, D, K>,
     certificate: &Certificate<S, D>,
 ) -> Result<(), NodeFault>
+    requires { AtSome S.Scheme L.Elector K.Disk ⟦<S as Speaks<D>>⟧.formats core.old (λ f s h. Allowed S.Scheme f s h (Came certificate.now)) }
     ensures taken { OnOk result (AtOwn S.Scheme L.Elector K.Disk ⟦<S as Speaks<D>>⟧.formats core.old (λ f s h.
         Allowed S.Scheme f s h (Came certificate.now) → CoreKeeps S.Scheme L.Elector K.Disk f s core.new (Came certificate.now ∷ h))) }
     ensures any_moment { AtOwn S.Scheme L.Elector K.Disk ⟦<S as Speaks<D>>⟧.formats core.old (λ f s h.

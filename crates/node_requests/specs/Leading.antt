@@ -1,6 +1,9 @@
 -- Who leads the views whose votes came up.
 use Rattle.std.specs.Prelude.{◌≡◌, ◌≢◌, ◌⊎◌, ◌∷◌, Bool, ℕ, Some, None, IsSome}
 use Rattle.types_core.specs.declared.scheme.Scheme.{Ghosts}
+use Rattle.types_terms.specs.declared.elector.Elector as elector
+use Rattle.simplex_state.specs.declared.state.State.{State}
+use Rattle.simplex_state.specs.State as voting
 use Rattle.voter_history.specs.Leaders.{leader}
 use Rattle.batcher_verifier.specs.History.{leader_of}
 use Rattle.node_votes.specs.declared.acceptance.Acceptance.{Acceptance}
@@ -10,6 +13,11 @@ use Rattle.simplex_member.specs.Point.{History, Leads}
 use Rattle.simplex_member.specs.Setup.{Setup}
 use Rattle.node_requests.specs.declared.acted.Acted.{Acted}
 use Rattle.node_requests.specs.declared.acted.Acted.TheVariants as came
+
+-- a history leads to this voter and these votes of all views: it can't be that none does
+abbrev pub AreLed : {S L D P G C : Type 0} → Ghosts S D P G C → elector.Ghosts L S D P G C → (D → D → Bool) → State S L D P G C → Acceptance S D P G C → Type 0
+AreLed {S} {L} {D} {P} {G} {C} g e same voter acceptance =
+    ¬ ((s : Setup S D C) (h : History S D P G C) → voting.Keeps g e s.voter voter (voter_of s h) → ¬ accepting.Keeps g same s acceptance h)
 
 module _ {S D P G C : Type 0} (s : Setup S D C) where
   -- the votes of each view know who leads it, as far as the voter does

@@ -7,7 +7,7 @@ ghost use Rattle.simplex_member.specs.declared.fault.NodeFault.TheVariants as st
 ghost use Rattle.simplex_member.specs.Layers.{voter_of};
 ghost use Rattle.simplex_member.specs.Point.{History};
 ghost use Rattle.simplex_member.specs.Setup.{Setup};
-ghost use Rattle.node_requests.specs.Leading.{MayBeNamed, NamesLeader, NoLeaderToName};
+ghost use Rattle.node_requests.specs.Leading.{AreLed, MayBeNamed, NamesLeader, NoLeaderToName};
 
 use crate::acted::Acted;
 use node_votes::{Acceptance, refused_for};
@@ -25,6 +25,7 @@ pub fn name_leader<S: Scheme<D> + Drop, L: Elector<S, D>, D: Digest>(
     voter: &Voter<S, L, D>,
     acceptance: &mut Acceptance<S, D>,
 ) -> Result<Acted, NodeFault>
+    requires { AreLed S.Scheme L.Elector D.PartialEq.eq voter.now acceptance.old }
     ensures named { IfOk result (λ acted.
         (s : Setup S D S.Certificate) (h : History S D S.PublicKey S.Signature S.Certificate)
         → voting.Keeps S.Scheme L.Elector s.voter voter.now (voter_of s h)

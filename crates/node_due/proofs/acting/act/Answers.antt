@@ -2,7 +2,7 @@ use Rattle.simplex_member.specs.Packet.{formats}
 use Rattle.node_requests.specs.Asking.{is_poll, is_silent}
 use Rattle.node_due.specs.NoneDue.{NothingByVotes, NothingMoreToAsk, NothingToAskOnProposals}
 use Rattle.node_due.proofs.Lasting.{asks_last, both_last, itself, poll_is_silent, none_is_all, none_lasts, proposals_last, votes_last}
-use Rattle.node_due.proofs.Settling.{did_so, failed_so, none_due, tried_as, tried_behind}
+use Rattle.node_due.proofs.Settling.{did_so, failed_so, leads, none_due, tried_as, tried_behind}
 use Rattle.node_core.specs.Telling.{tells_behind, tells_ok}
 use Rattle.node_due.proofs.acting.act.Goals as goal
 
@@ -62,3 +62,14 @@ returns-in-Err-ask_for_more-clause-faults g c = tells_behind c.in-Ok-Nothing.ens
 
 pub returns-clause-faults : goal.returns-clause-faults
 returns-clause-faults g c = tells_behind c.in-Ok-Nothing.ensures.faults (tells_behind c.in-Ok-Nothing-go_by_votes.ensures.faults (tells_behind c.in-Ok-Nothing-ask_for_more.ensures.faults c.vote.ensures.faults))
+
+-- a history leads to where each act leaves off
+pub go_by_votes-requires : goal.go_by_votes-requires
+go_by_votes-requires g c = λ none. c.requires (λ s h k few. let at = leads (c.in-Ok-Nothing.ensures.tried s h k) in none s at.0 at.1 few)
+
+pub vote-requires : goal.vote-requires
+vote-requires g c = λ none. c.requires (λ s h k few.
+    let one = leads (c.in-Ok-Nothing.ensures.tried s h k) in
+    let two = leads (c.in-Ok-Nothing-go_by_votes.ensures.tried s one.0 one.1) in
+    let at = leads (c.in-Ok-Nothing-ask_for_more.ensures.tried s two.0 two.1) in
+    none s at.0 at.1 few)

@@ -1,6 +1,6 @@
 use Rattle.node_requests.specs.Asking.{is_none}
 use Rattle.node_due.proofs.Lasting.{itself, none_lasts}
-use Rattle.node_due.proofs.Settling.{did_so, failed_so, tried_as, tried_behind}
+use Rattle.node_due.proofs.Settling.{did_so, failed_so, leads, tried_as, tried_behind}
 use Rattle.node_core.specs.Telling.{tells_behind, tells_ok}
 use Rattle.node_due.proofs.acting.go_by_votes.Goals as goal
 
@@ -36,3 +36,10 @@ returns-in-Err-try_votes_of_views-clause-faults g c = tells_behind c.in-Ok-Nothi
 
 pub returns-clause-faults : goal.returns-clause-faults
 returns-clause-faults g c = tells_behind c.in-Ok-Nothing.ensures.faults (tells_behind c.in-Ok-Nothing-try_votes_of_views.ensures.faults c.try_to_follow.ensures.faults)
+
+-- a history leads to where each act leaves off
+pub try_leader-requires : goal.try_leader-requires
+try_leader-requires g c = c.requires
+
+pub try_votes_of_views-requires : goal.try_votes_of_views-requires
+try_votes_of_views-requires g c = λ none. c.requires (λ s h k few. let at = leads (c.in-Ok-Nothing.ensures.tried s h k c.args.out.now.items) in none s at.0 at.1 few)

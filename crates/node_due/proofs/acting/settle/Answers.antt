@@ -45,3 +45,7 @@ returns-in-Ok-Nothing-clause-faults g c = tells_behind c.acts.invariant.told (te
 
 pub returns-clause-faults : goal.returns-clause-faults
 returns-clause-faults g c = tells_behind c.acts.invariant.told c.say_when-2.ensures.faults
+
+-- a history leads to where the acts so far leave off
+pub act-requires : goal.act-requires
+act-requires g c = λ none. c.requires (λ s h k few. let far = c.acts.invariant.acts s h k in none s far.did.end far.did.acted.keeps few)

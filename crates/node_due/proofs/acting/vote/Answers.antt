@@ -2,7 +2,7 @@ use Rattle.simplex_member.specs.Packet.{formats}
 use Rattle.node_requests.specs.Asking.{is_poll, is_none}
 use Rattle.node_due.specs.NoneDue.{NoFinalizeToCast, NoNotarizeToCast}
 use Rattle.node_due.proofs.Lasting.{both_last, finalizes_last, itself, none_is_all, none_lasts, notarizes_last}
-use Rattle.node_due.proofs.Settling.{did_so, failed_so, tried_as, tried_behind}
+use Rattle.node_due.proofs.Settling.{did_so, failed_so, leads, tried_as, tried_behind}
 use Rattle.node_core.specs.Telling.{tells_behind, tells_ok}
 use Rattle.node_due.proofs.acting.vote.Goals as goal
 
@@ -41,3 +41,16 @@ returns-in-Err-try_finalize-clause-faults g c = tells_behind c.in-Ok-Nothing.ens
 
 pub returns-clause-faults : goal.returns-clause-faults
 returns-clause-faults g c = tells_behind c.in-Ok-Nothing.ensures.faults (tells_behind c.in-Ok-Nothing-try_finalize.ensures.faults c.try_nullify.ensures.faults)
+
+-- a history leads to where each act leaves off
+pub try_notarize-requires : goal.try_notarize-requires
+try_notarize-requires g c = c.requires
+
+pub try_finalize-requires : goal.try_finalize-requires
+try_finalize-requires g c = λ none. c.requires (λ s h k few. let at = leads (c.in-Ok-Nothing.ensures.tried s h k) in none s at.0 at.1 few)
+
+pub try_nullify-requires : goal.try_nullify-requires
+try_nullify-requires g c = λ none. c.requires (λ s h k few.
+    let one = leads (c.in-Ok-Nothing.ensures.tried s h k) in
+    let at = leads (c.in-Ok-Nothing-try_finalize.ensures.tried s one.0 one.1) in
+    none s at.0 at.1 few)

@@ -49,3 +49,19 @@ pub returns-in-Err-clause-tried : goal.returns-in-Err-clause-tried
 returns-in-Err-clause-tried g c = λ s h k due retry_known.
     let f = formats {S = g.row.S.Denot} {P = g.row.S-PublicKey.Denot} g.D.PartialEq.eq g.D.Write.spelling g.S.Signature.Write.spelling g.S.Certificate.Write.spelling g.D.Read.reading g.S.Signature.Read.reading g.S.Certificate.Read.reading (g.S.Scheme.size s.voter.scheme) in
     did_fail g.S.Scheme g.L.Elector g.K.Disk f s is_none (NoNullifyToCast g.S.Scheme f s) c.args.core.now _ h c.args.out.now.items c.args.out.now.items step_fault.Memory (c.a_ledger_at_rest_leaves_its_record.ensures (owner_of s) c.args.core.now.ledger (kept_of s.voter.length h) k.ledger)
+
+-- what is due may be cast
+pub cast-requires : goal.cast-requires
+cast-requires g c = λ none. c.requires (λ s h k few due.
+    let f = formats {S = g.row.S.Denot} {P = g.row.S-PublicKey.Denot} g.D.PartialEq.eq g.D.Write.spelling g.S.Signature.Write.spelling g.S.Certificate.Write.spelling g.D.Read.reading g.S.Signature.Read.reading g.S.Certificate.Read.reading (g.S.Scheme.size s.voter.scheme) in
+    let v = c.in-Ok-Some.vote in
+    let view = c.current_view-view.result in
+    let at = c.current_view-view.ensures s.voter (voter_of s h) k.voter in
+    let is = (rw c.in-Ok-Some.field-0-is at c.in-Ok-Some.ensures.answer) s.voter (voter_of s h) k.voter in
+    let made = (rw c.in-Ok-Some.field-0-is at c.in-Ok-Some.ensures.keeps) s.voter (voter_of s h) k.voter in
+    let is_due = due (subst (λ (u : ℕ). MayGiveUp s.voter (voter_of s h) u) at is.0) in
+    let first = sym (c.voted_nullify.ensures s.voter (voter_of s h) k.voter) ∙ c.if-voted_nullify.false in
+    let may = nullify_allowed g.S.Scheme f s h k.begun k.set_up.me_is v view k.allowed (c.due_may_be_recorded.ensures.votes f s g.met.D.Digest.equal_is_same) at is_due first is.2 in
+    let ahead = is_ahead g.S.Scheme g.L.Elector g.K.Disk f s c.args.core.now c.construct_nullify.new.self h (Votes (vote.Nullify v)) k
+    (ahead_nullify g.S.Scheme g.L.Elector g.K.Disk f s c.construct_nullify.new.self h v view (ap (λ (r : Round). r.view) is.2.round) made) in
+    none s h ahead may (open_to_nullify g.S.Scheme f s h v.round view is.2.round is.0))

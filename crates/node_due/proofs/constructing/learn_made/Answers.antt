@@ -1,3 +1,6 @@
+use Rattle.std.proofs.Common.{sym, subst}
+use Rattle.messages_certificates.specs.declared.artifact.Artifact.{Artifact}
+use Rattle.node_inbox.specs.Reading.{IsReadAgain}
 use Rattle.simplex_member.specs.Layers.{finalized_of, repair_of, voter_of}
 use Rattle.simplex_member.specs.Packet.{formats}
 use Rattle.simplex_member.specs.Point.{Constructs}
@@ -51,3 +54,7 @@ returns-clause-keeps g c = λ s h view kind batch ahead may is.
     (c.what_is_not_recorded_is_unknown.ensures f s h x k.allowed (begun_some h k.begun)) (c.in-Ok.ensures.told s.voter (voter_of s h) k.voter) (c.in-Ok-update_repair.ensures.told s.voter.length (repair_of f h) k.repair)
     (c.in-Ok-record.ensures.keeps (owner_of s) (kept_of s.voter.length h) k.ledger) (c.last_finalized.ensures.value s.voter) (c.forget.ensures (finalized_of s h) h k.tables))
     (c.in-Ok-enter.ensures.entered s h)
+
+-- it can be read again
+pub record-requires : goal.record-requires
+record-requires g c = subst (λ (x : Artifact g.row.S.Denot g.row.D.Denot g.row.S-PublicKey.Denot g.row.S-Signature.Denot g.row.S-Certificate.Denot). IsReadAgain (g.S.Certificate.Read.within 65535) x) (sym c.in-Ok.ensures.copy) c.requires

@@ -45,3 +45,6 @@ returns-in-Ok-enter-clause-taken g c = λ s h view kind ahead may.
       keeps = unmade_keeps g.S.Scheme g.L.Elector g.K.Disk f s c.args.core.now c.enter.new.acceptance h view kind c.args.batch c.in-None.is ahead (may (adds_nothing g.S.Scheme f s h view kind c.args.batch _ c.in-None.is)) (c.in-Ok-enter.ensures.entered s h);
       acts = unmade_handed g.S.Scheme f s h view kind c.args.batch c.deref.result.now c.args.out.now.items c.block_all.new.out.items c.deref.ensures.value (c.in-Ok.ensures.done f) c.in-None.is;
     }
+
+pub take_made-requires : goal.take_made-requires
+take_made-requires g c = rw c.in-Some.is at c.requires

@@ -17,7 +17,7 @@ use Rattle.node_due.specs.NoneDue.{NoConstructionToMake}
 use Rattle.node_core.specs.Taking.{IsLeftBy}
 use Rattle.node_core.specs.Standing.{still-keeps}
 use Rattle.node_core.specs.Leaving.{left_at_rest}
-use Rattle.node_due.proofs.Making.{constructs, forwards, made_recordable, nothing_due, tried_failed, tried_none, tried_one}
+use Rattle.node_due.proofs.Making.{constructs, forwards, made_recordable, made_within_record, nothing_due, read_again, tried_failed, tried_none, tried_one}
 use Rattle.node_due.proofs.constructing.try_votes_of_views.Goals as goal
 
 pub returns-in-Ok-Some-default-Forwards-clause-tried : goal.returns-in-Ok-Some-default-Forwards-clause-tried
@@ -54,3 +54,9 @@ pub returns-in-Err-clause-tried : goal.returns-in-Err-clause-tried
 returns-in-Err-clause-tried g c = λ s h k.
     let f = formats {S = g.row.S.Denot} {P = g.row.S-PublicKey.Denot} g.D.PartialEq.eq g.D.Write.spelling g.S.Signature.Write.spelling g.S.Certificate.Write.spelling g.D.Read.reading g.S.Signature.Read.reading g.S.Certificate.Read.reading (g.S.Scheme.size s.voter.scheme) in
     tried_failed g.S.Scheme g.L.Elector g.K.Disk f s is_none (NoConstructionToMake g.S.Scheme f s) c.args.core.now _ h c.args.out.now.items c.args.out.now.items step_fault.Memory (c.a_ledger_at_rest_leaves_its_record.ensures (owner_of s) c.args.core.now.ledger (kept_of s.voter.length h) k.ledger)
+
+-- what is made can be read again
+pub take_batch-requires : goal.take_batch-requires
+take_batch-requires g c =
+    let readable = rw (c.in-Ok-Some-default-Made.field-0-is, c.in-Ok-Some-default-Made.field-0-0-1-is) at c.in-Ok-Some-default-Made.ensures.readable in
+    read_again (g.S.Certificate.Read.within 65535) c.in-Ok-Some-default-Made.batch.certificate (λ never. c.requires (λ s h k few. never (made_within_record g.S.Certificate.Read.within (g.S.Scheme.size s.voter.scheme) c.in-Ok-Some-default-Made.batch.certificate (readable s h k.votes))))

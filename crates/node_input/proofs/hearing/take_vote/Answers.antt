@@ -3,6 +3,7 @@ use Rattle.std.specs.Prelude.{Option, option_to_list}
 use Rattle.simplex_messages.specs.declared.activity.Activity.{Activity}
 use Rattle.simplex_messages.specs.VoteParts.{vote_round}
 use Rattle.node_votes.specs.KeepsVotes.{IsOpenTo}
+use Rattle.node_votes.specs.Refusing.{no-other}
 use Rattle.simplex_member.specs.Deeds.{Blocks, Reports}
 use Rattle.simplex_member.specs.Layers.{finalized_of}
 use Rattle.simplex_member.specs.Packet.{formats}
@@ -53,3 +54,7 @@ returns-clause-heard g c = λ s h k another may.
             (hands_as f c.args.out.now.items c.hand_admission_out.new.out.items (Blocks c.args.sender ∷ map Reports (option_to_list a.report)) (admission_deeds c.args.sender a) (sym (deeds-blocked c.args.sender a c.if-added.false c.if-not-block.false)) (c.in-Ok-hand_admission_out.ensures.done f));
       },
     )
+
+-- a vote of the epoch is refused for want of memory alone
+pub refused_for-requires : goal.refused_for-requires
+refused_for-requires g c = no-other c.in-Err.fault (λ other. c.requires (λ s h k few may. other (c.in-Err.ensures.fault s h k.votes may.epoch)))

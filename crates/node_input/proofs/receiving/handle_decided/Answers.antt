@@ -99,3 +99,10 @@ returns-in-Ok-take_ask-clause-faults g c = unasked g.K.Disk (book_of c.args.core
 
 pub returns-clause-faults : goal.returns-clause-faults
 returns-clause-faults g c = unasked g.K.Disk (book_of c.args.core.now) (book_of c.args.core.now) (Err c.in-Err-take_ask.fault) refl c.in-Err-take_ask.ensures.fault
+
+-- a history that leads here decided so
+pub take_vote-requires : goal.take_vote-requires
+take_vote-requires g c = λ none. c.requires (λ s h k few at. let d = rw c.in-Vote.is at at.1 in none s h k few d.2)
+
+pub take_certificate-requires : goal.take_certificate-requires
+take_certificate-requires g c = λ none. c.requires (λ s h k few at. let d = rw c.in-Certificate.is at at.1 in none s h k few d.2)

@@ -23,3 +23,10 @@ returns-in-Err-clause-handled g c = λ s h k none.
       any_moment = λ keeps. rest-reached g.S.Scheme f s h g.K.Disk _ _ (event.Packet c.args.sender c.args.channel c.args.bytes) (c.a_ledger_at_rest_leaves_its_record.ensures (owner_of s) c.args.core.now.ledger (kept_of s.voter.length h) k.ledger keeps);
       without_memory = λ r first needs. absurd (cc (c.in-Err.ensures.memory s h k r (subst (λ (l : List ℕ). IsFirst (bytes_tests g.S.Scheme f s h c.args.sender c.args.channel l) (Some r)) (sym c.deref.ensures.value) first), needs));
     }
+
+-- a history that leads here decides what is done with it
+pub handle_decided-requires : goal.handle_decided-requires
+handle_decided-requires g c = λ none. c.requires (λ s h k few.
+    let f = formats {S = g.row.S.Denot} {P = g.row.S-PublicKey.Denot} g.D.PartialEq.eq g.D.Write.spelling g.S.Signature.Write.spelling g.S.Certificate.Write.spelling g.D.Read.reading g.S.Signature.Read.reading g.S.Certificate.Read.reading (g.S.Scheme.size s.voter.scheme) in
+    none s h k few
+    (c.args.channel, subst (λ (l : List ℕ). IsDecided g.S.Scheme f s h c.args.sender (f.packet_in c.args.channel l) (bytes_tests g.S.Scheme f s h c.args.sender c.args.channel l) c.in-Ok.decided) c.deref.ensures.value (c.in-Ok.ensures.decided s h k)))

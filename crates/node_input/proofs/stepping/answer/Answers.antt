@@ -17,3 +17,6 @@ returns-in-Ok-clause-faults g c = tells_ok c.in-Ok.ensures.faults
 
 pub returns-in-Err-clause-faults : goal.returns-in-Err-clause-faults
 returns-in-Err-clause-faults g c = tells_err _ _ refl refl c.in-Err.ensures.faults
+
+pub handle-requires : goal.handle-requires
+handle-requires g c = c.requires

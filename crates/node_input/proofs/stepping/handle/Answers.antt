@@ -24,3 +24,6 @@ pub returns-in-Moment-clause-handled : goal.returns-in-Moment-clause-handled
 returns-in-Moment-clause-handled g c = λ s h k none.
     let f = formats {S = g.row.S.Denot} {P = g.row.S-PublicKey.Denot} g.D.PartialEq.eq g.D.Write.spelling g.S.Signature.Write.spelling g.S.Certificate.Write.spelling g.D.Read.reading g.S.Signature.Read.reading g.S.Certificate.Read.reading (g.S.Scheme.size s.voter.scheme) in
     rw c.in-Moment.is (handled-so g.S.Scheme g.L.Elector g.K.Disk f s c.args.core.now c.handle_moment.new.core h _ [] c.args.out.now.items c.handle_moment.result (sym none) (c.handle_moment.ensures.handled s h k))
+
+pub handle_packet-requires : goal.handle_packet-requires
+handle_packet-requires g c = c.requires

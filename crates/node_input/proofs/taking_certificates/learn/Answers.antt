@@ -1,6 +1,8 @@
-use Rattle.std.proofs.Common.{◌≡◌, ◌≤◌, ◌∷◌, ◌++◌, [], ℕ, Some, refl, sym, ap, subst}
+use Rattle.std.proofs.Common.{◌≡◌, ◌≤◌, ◌<◌, ◌∷◌, ◌++◌, [], ℕ, Some, refl, sym, ap, subst, arith}
+use Rattle.std.specs.Prelude.{◌^◌}
+use Rattle.types_codec.specs.Codec.{bounded-IsCodec}
 use Rattle.messages_certificates.specs.declared.artifact.Artifact.{Artifact}
-use Rattle.messages_certificates.specs.Artifact.{certificate_artifact}
+use Rattle.messages_certificates.specs.Artifact.{artifact-IsCodec, artifact_within, artifact_within-weaker, certificate_artifact}
 use Rattle.simplex_record.specs.Record.{entries, entry}
 use Rattle.simplex_record.specs.Rules.{MayFollow}
 use Rattle.simplex_state.specs.State as voting
@@ -11,7 +13,9 @@ use Rattle.simplex_member.specs.Packet.{formats}
 use Rattle.simplex_member.specs.Point.{Came}
 use Rattle.simplex_member.specs.Recorded.{kept_of, record_of}
 use Rattle.simplex_member.specs.Setup.{owner_of}
+use Rattle.node_inbox.specs.Reading.{whole-fits}
 use Rattle.node_core.specs.Learning.{first_of}
+use Rattle.node_core.specs.SaidRounds.{of-epoch}
 use Rattle.node_core.specs.Standing.{begun_some, rises, room_of}
 use Rattle.node_core.specs.Leaving.{left_at_rest, left_by}
 use Rattle.node_input.proofs.taking_certificates.learn.Goals as goal
@@ -64,3 +68,16 @@ returns-clause-taken g c = λ s h k allowed.
       ledger = subst (λ (a : Artifact g.row.S.Denot g.row.D.Denot g.row.S-PublicKey.Denot g.row.S-Signature.Denot g.row.S-Certificate.Denot). KeepsRecord g.K.Disk f.artifact (owner_of s) c.record.new.ledger (kept_of s.voter.length h ++ a ∷ [])) c.in-Ok.ensures.copy kept;
       tables = subst (λ (n : ℕ). KeepsTables n c.forget.new.self (Came x ∷ h)) final (c.forget.ensures (finalized_of s h) (Came x ∷ h) k.tables (subst (λ (n : ℕ). finalized_of s h ≤ n) (sym final) (rises (latest h) (finalized_of s h) x (voter_of s h))));
     }
+
+-- what was read in its committee can be read again
+pub record-requires : goal.record-requires
+record-requires g c = λ never. c.requires (λ s h k few allowed.
+    let n = g.S.Scheme.size s.voter.scheme in
+    let small : n < 2 ^ 32 = omega (arith, few) in
+    let codec = artifact-IsCodec (bounded-IsCodec (g.met.D.Read.one_spelling n small) (g.met.D.Digest.unbounded n)) (bounded-IsCodec (g.met.S.Signature.Read.one_spelling n small) (g.met.S.Signature.Signature.unbounded n)) (g.met.S.Certificate.Read.one_spelling n small) in
+    let fits = whole-fits codec allowed.readable.0 (certificate_artifact c.args.certificate.now) allowed.readable.1 in
+    never (subst (artifact_within (g.S.Certificate.Read.within 65535)) (sym c.in-Ok.ensures.copy) (artifact_within-weaker (λ x within. g.met.S.Certificate.Read.grows n 65535 x few within) (certificate_artifact c.args.certificate.now) fits.1)))
+
+-- it is of the epoch
+pub tell_votes-requires : goal.tell_votes-requires
+tell_votes-requires g c = λ none. c.requires (λ s h k few allowed. none s h k.votes (of-epoch (g.S.Scheme.attests s.voter.scheme) (g.S.Scheme.certifies s.voter.scheme) (owner_of s) c.args.certificate.now allowed.fits.verifies))

@@ -13,3 +13,6 @@ returns-in-Ok-clause-taken g c = on_ok_weaker c.hand_certificate.result (λ acts
       keeps = keeps;
       acts = acts f s h (Came c.args.certificate) refl keeps (c.current_view-was.ensures s.voter (voter_of s h) k.voter) (c.last_finalized-low.ensures.value s.voter (voter_of s h) k.voter) spelled;
     }) c.hand_certificate.ensures.acts
+
+pub learn-requires : goal.learn-requires
+learn-requires g c = c.requires

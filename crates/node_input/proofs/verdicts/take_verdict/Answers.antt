@@ -9,7 +9,7 @@ use Rattle.simplex_member.specs.Packet.{formats}
 use Rattle.simplex_member.specs.Point.{Judged}
 use Rattle.simplex_member.specs.Recorded.{kept_of}
 use Rattle.simplex_member.specs.Setup.{owner_of}
-use Rattle.node_input.proofs.Judging.{round_is, verdict_allowed, verdict_recordable, verdict_recorded}
+use Rattle.node_input.proofs.Judging.{round_is, verdict_allowed, verdict_recordable, verdict_recorded, verdict_within}
 use Rattle.node_core.specs.Leaving.{left_by}
 use Rattle.node_input.proofs.verdicts.take_verdict.Goals as goal
 
@@ -53,3 +53,7 @@ returns-in-Err-clause-any_moment g c = λ s h k awaited keeps.
     (verdict_recordable g.S.Scheme f s h r _ _ (c.packets_are_read_back.ensures.recordable (g.S.Scheme.size s.voter.scheme) small) c.new-round.result c.args.ok is c.record.ensures.readable) in
     left_by g.S.Scheme f s g.K.Disk h (Judged r c.args.ok) (artifact.Certification c.new-round.result c.args.ok) _ _ (ap (λ (x : Round). Some (artifact.Certification x c.args.ok)) (sym is))
     may (c.record.ensures.any_moment (owner_of s) (kept_of s.voter.length h) k.ledger keeps)
+
+-- a verdict can be read again under any bound
+pub record-requires : goal.record-requires
+record-requires g c = λ never. never (verdict_within _ c.new-round.result c.args.ok)
