@@ -4,7 +4,7 @@ use Rattle.types_core.specs.declared.attestation.Attestation.{Attestation}
 use Rattle.types_terms.specs.Rotation.{Rotation}
 use Rattle.simplex_types.specs.Plain.{Committee}
 use Rattle.simplex_member.specs.declared.action.Reply.{Reply}
-use Rattle.node_steps.specs.declared.node.Node.{Node}
+use Rattle.node_steps.specs.Nodes.{Node}
 use Rattle.cli_disk.specs.HostedDisk.{HostedState}
 use Rattle.cli_hosted.specs.declared.session.Session.{Session}
 

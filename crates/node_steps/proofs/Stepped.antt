@@ -34,7 +34,7 @@ use Rattle.node_core.specs.GoingThrough as reading
 use Rattle.node_core.specs.declared.node_state.Core.{Core}
 use Rattle.node_due.specs.Acting.{HasSettled, IsLeftByActs, WasSettled}
 use Rattle.node_core.specs.Keeps.{CoreKeeps, book_of}
-use Rattle.node_steps.specs.declared.node.Node.{Node}
+use Rattle.node_steps.specs.Nodes.{Node}
 use Rattle.node_steps.specs.Opening.{IsOpen, IsOpenAndSettled, MayBeLeftOpen, early}
 use Rattle.node_steps.specs.Stepping.{GoesOn, IsAnsweredWhole}
 use Rattle.node_input.specs.Stepping.{IsAnswered, StepsAtOnce, TakesAtOnce}

@@ -21,15 +21,31 @@ use Rattle.simplex_member.specs.Laws.{IsExact}
 use Rattle.simplex_member.specs.Packet.{Formats, IsRecordable}
 use Rattle.simplex_member.specs.Setup.{Setup, IsInTime, brought_by, owner_of, setup_of}
 use Rattle.node_core.specs.declared.layers.Layers.{Layers}
-use Rattle.node_steps.specs.declared.node.Node.{Node}
+use Rattle.node_steps.specs.Nodes.{Node}
 use Rattle.node_core.specs.declared.settings.Settings.{Settings}
 use Rattle.node_core.specs.SettingUp.{IsSetUp}
+use Rattle.node_core.specs.Keeps.{CoreKeeps}
 use Rattle.node_steps.specs.Keeps.{NodeKeeps}
 use Rattle.node_core.specs.GoingThrough.{HasBegun}
 use Rattle.node_steps.specs.Opening.{AreOpenedOn, IsOpen, MayBeLeftOpen, MayGoThrough}
 
 module _ {S L D P G C K : Type 0} (g : Ghosts S D P G C) (e : elector.Ghosts L S D P G C) (k : disk.Ghosts K) (f : Formats S D P G C) where
-  -- once the record was gone through, the history and the ledger agree: the node of both stands there
+  -- once the record was gone through, the history and the ledger agree: all that the node of both holds stands there
+  pub holds-begun : (s : Setup S D C) (now : ℕ) (settings : Settings S) (layers : Layers S L D P G C) (ledger : Ledger S D K P G C) (found : List (Artifact S D P G C)) (actions : List (Action S D P G C))
+      → IsSetUp s settings → (begun : HasBegun g e f s now found layers actions) → KeepsRecord k f.artifact (owner_of s) ledger found
+      → CoreKeeps g e k f s (record { settings = settings; voter = layers.voter; acceptance = layers.acceptance; repair = layers.repair; ledger = ledger; tables = layers.tables }) begun.end
+  holds-begun s now settings layers ledger found actions set_up begun keeps = record {
+    begun = begun.begun;
+    allowed = begun.allowed;
+    set_up = set_up;
+    voter = begun.stand.voter;
+    votes = begun.stand.votes;
+    repair = begun.stand.repair;
+    ledger = subst (λ (xs : List (Artifact S D P G C)). KeepsRecord k f.artifact (owner_of s) ledger xs) (sym begun.kept) keeps;
+    tables = begun.stand.tables (finalized_of s begun.end);
+  }
+
+  -- the node is open
   pub is-open : (s : Setup S D C) (Readable : Artifact S D P G C → Type 0) (brought : Option (Finalization S D P G C)) (on : Disks K) (now : ℕ) (settings : Settings S) (layers : Layers S L D P G C) (ledger : Ledger S D K P G C) (node : Node S L D K P G C) (found founded : List (Artifact S D P G C)) (actions : List (Action S D P G C))
       → node ≡ record { core = record { settings = settings; voter = layers.voter; acceptance = layers.acceptance; repair = layers.repair; ledger = ledger; tables = layers.tables }; failed = false }
       → IsSetUp s settings → HasBegun g e f s now (found ++ founded) layers actions → AreOpenedOn g k f s Readable brought on found founded → KeepsRecord k f.artifact (owner_of s) ledger (found ++ founded) → IsOpen g e k f s Readable brought on now node actions
@@ -39,19 +55,7 @@ module _ {S L D P G C K : Type 0} (g : Ghosts S D P G C) (e : elector.Ghosts L S
     are = are;
     end = begun.end;
     opens = begun.opens;
-    keeps = subst (λ (n : Node S L D K P G C). NodeKeeps g e k f s n begun.end) (sym is) (record {
-      running = keeps.runs;
-      core = record {
-        begun = begun.begun;
-        allowed = begun.allowed;
-        set_up = set_up;
-        voter = begun.stand.voter;
-        votes = begun.stand.votes;
-        repair = begun.stand.repair;
-        ledger = subst (λ (xs : List (Artifact S D P G C)). KeepsRecord k f.artifact (owner_of s) ledger xs) (sym begun.kept) keeps;
-        tables = begun.stand.tables (finalized_of s begun.end);
-      };
-    });
+    keeps = subst (λ (n : Node S L D K P G C). NodeKeeps g e k f s n begun.end) (sym is) (record { running = keeps.runs; core = holds-begun s now settings layers ledger (found ++ founded) actions set_up begun keeps });
   }
 
   -- of a scheme that is found in several places: the member may go through what it opened

@@ -12,7 +12,7 @@ use Rattle.simplex_member.specs.Point.{History}
 use Rattle.simplex_member.specs.Setup.{Setup}
 use Rattle.node_core.specs.Keeps as cores
 use Rattle.node_core.specs.Keeps.{CoreKeeps}
-use Rattle.node_steps.specs.declared.node.Node.{Node}
+use Rattle.node_steps.specs.Nodes.{Node}
 
 -- the journal that a node keeps
 abbrev pub book_of : {S L D K P G C : Type 0} → Node S L D K P G C → Books (Artifact S D P G C) K

@@ -1,3 +1,4 @@
+pub mod Nodes
 pub mod Keeps
 pub mod Opening
 pub mod Stepping

@@ -30,7 +30,7 @@ use Rattle.simplex_member.specs.Setup.{Setup, IsInTime, brought_by, owner_of}
 use Rattle.node_core.specs.GoingThrough.{Opens}
 use Rattle.node_core.specs.SettingUp.{IsSetUp}
 use Rattle.node_core.specs.declared.settings.Settings.{Settings}
-use Rattle.node_steps.specs.declared.node.Node.{Node}
+use Rattle.node_steps.specs.Nodes.{Node}
 use Rattle.node_steps.specs.Keeps.{NodeKeeps}
 
 -- a fault is told by the arguments alone

@@ -3,7 +3,7 @@
 ghost use Rattle.std.specs.Prelude.{IsOk, IsSome};
 ghost use Rattle.simplex_member.specs.declared.event.Event.{Event};
 ghost use Rattle.simplex_member.specs.Point.{History};
-ghost use Rattle.node_core.specs.Keeps.{AtOwn, book_of};
+ghost use Rattle.node_core.specs.Keeps.{AtOwn, IsLed, book_of};
 ghost use Rattle.node_core.specs.Telling.{TellsOfBook};
 ghost use Rattle.node_input.specs.Stepping.{StepsAtOnce};
 ghost use Rattle.node_steps.specs.Stepping.{GoesOn, IsAnsweredWhole};
@@ -23,6 +23,7 @@ pub(crate) fn answer_whole<S: Scheme<D> + Drop, L: Elector<S, D>, D: Digest, K: 
     core: &mut Core<S, L, D, K>,
     event: Event<D>,
 ) -> Result<Reply<S, D>, NodeFault>
+    requires { IsLed S.Scheme L.Elector K.Disk ⟦<S as Speaks<D>>⟧.formats core.old }
     ensures answered { AtOwn S.Scheme L.Elector K.Disk ⟦<S as Speaks<D>>⟧.formats core.old
         (λ f s h. IsAnsweredWhole S.Scheme L.Elector K.Disk f s core.old core.new h event result) }
     ensures faults { TellsOfBook K.Disk (book_of core.old) (book_of core.new) result }
@@ -39,6 +40,7 @@ fn go_on<S: Scheme<D> + Drop, L: Elector<S, D>, D: Digest, K: Disk>(
     core: &mut Core<S, L, D, K>,
     reply: Reply<S, D>,
 ) -> Result<Reply<S, D>, NodeFault>
+    requires { IsLed S.Scheme L.Elector K.Disk ⟦<S as Speaks<D>>⟧.formats core.old }
     ensures goes_on { AtOwn S.Scheme L.Elector K.Disk ⟦<S as Speaks<D>>⟧.formats core.old (λ f s mid.
         (h : History S D S.PublicKey S.Signature S.Certificate) (event : Event D)
         → StepsAtOnce S.Scheme f s h event reply mid

@@ -12,6 +12,7 @@ use journal_single::Disk;
 use node_core::Core;
 use node_record::a_ledger_at_rest_leaves_its_record;
 use simplex_member::Speaks;
+use std::marker::Model;
 use types_core::{Digest, Scheme, View};
 use types_terms::Elector;
 
@@ -20,6 +21,21 @@ use types_terms::Elector;
 pub struct Node<S: Scheme<D>, L: Elector<S, D>, D: Digest, K: Disk> {
     pub(crate) core: Core<S, L, D, K>,
     pub(crate) failed: bool,
+}
+
+impl<S: Scheme<D>, L: Elector<S, D>, D: Digest, K: Disk> Model for Node<S, L, D, K> {
+    ghost use Rattle.std.specs.Prelude.{◌≡◌, false};
+    ghost use Rattle.simplex_member.specs.Packet.{formats};
+    ghost use Rattle.node_core.specs.Keeps.{IsLed};
+    ghost use Rattle.node_steps.specs.Nodes.{Node as Seen};
+
+    ghost Value = { Seen S L D K S.PublicKey S.Signature S.Certificate };
+
+    ghost view = { λ node. record { core = node.core; failed = node.failed } };
+
+    // While no step of it has failed, some history leads to all that it holds.
+    ghost invariant = { λ node. node.failed ≡ false → IsLed S.Scheme L.Elector K.Disk (formats {S = S} {P = S.PublicKey} D.PartialEq.eq D.spelling
+        S.Signature.spelling S.Certificate.spelling D.reading S.Signature.reading S.Certificate.reading) node.core };
 }
 
 impl<S: Scheme<D> + Drop, L: Elector<S, D>, D: Digest, K: Disk> Node<S, L, D, K> {

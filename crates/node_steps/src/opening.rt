@@ -7,7 +7,7 @@ ghost use Rattle.voter_rules.specs.declared.floor.FloorFault.{FloorFault};
 ghost use Rattle.voter_rules.specs.Floor.{AppliesToFloor};
 ghost use Rattle.journal_books.specs.declared.disks.Disks.{Disks};
 ghost use Rattle.journal_books.specs.declared.disks.Disks.TheVariants.{One, Two};
-ghost use Rattle.journal_books.specs.Books.{AreLeftAsTheyWere, HasFailed, HasNotFailed, IsForeignOn, Leave, LeaveSince, are_two, has_failed};
+ghost use Rattle.journal_books.specs.Books.{AreLeftAsTheyWere, HasFailed, HasNotFailed, IsForeignOn, Leave, LeaveSince, are_two};
 ghost use Rattle.node_record.specs.Ledger as ledgers;
 ghost use Rattle.node_record.specs.Founding.{OpensFrom};
 ghost use Rattle.node_record.specs.Ledger.{IsContradiction};
@@ -16,8 +16,9 @@ ghost use Rattle.simplex_member.specs.declared.fault.OpenFault.TheVariants as op
 ghost use Rattle.simplex_member.specs.First.{IsFirst};
 ghost use Rattle.simplex_member.specs.Packet.{IsRecordable};
 ghost use Rattle.simplex_member.specs.Setup.{Setup, IsInTime, brought_by, owner_of, setup_of, silence_of};
+ghost use Rattle.node_core.specs.Keeps.{IsLed};
 ghost use Rattle.node_core.specs.SettingUp.{EndsActs, IsSetUp};
-ghost use Rattle.node_steps.specs.Keeps.{book_of, disks_of};
+ghost use Rattle.node_steps.specs.Keeps.{book_of, disks_of, has_failed};
 ghost use Rattle.node_steps.specs.Opening.{HasOpened, IsOfRecord, IsOpen, IsOpenAndSettled, IsUnopened, MayBeLeftOpen, MayGoThrough, early, open_tests};
 
 use crate::node::Node;
@@ -231,6 +232,7 @@ fn open_over<S: Scheme<D> + Drop, L: Elector<S, D>, D: Digest, K: Disk>(
     requires built_for { L.built_for elector (S.size settings.scheme.value) }
     requires ready { (index : ℕ) × MayGoThrough S.Scheme K.Disk (artifact_spelling D.spelling S.Signature.spelling S.Certificate.spelling)
         (setup_of S.Scheme L.Elector config.now settings.scheme.value elector index) settings ledger now }
+    requires few { S.size settings.scheme.value ≤ 65535 }
     ensures opened { IfOk result (λ r.
         (brought : Option (Finalization S D S.PublicKey S.Signature S.Certificate)) (on : Disks K) (n index : ℕ)
         → let s = setup_of S.Scheme L.Elector config.now settings.scheme.value elector index in IsSetUp s settings
@@ -239,6 +241,7 @@ fn open_over<S: Scheme<D> + Drop, L: Elector<S, D>, D: Digest, K: Disk>(
         (IsRecordable (⟦<S as Speaks<D>>⟧.formats n)) (S.attests s.voter.scheme) (S.certifies s.voter.scheme) (owner_of s) brought on ledger
         → IsOpen S.Scheme L.Elector K.Disk (⟦<S as Speaks<D>>⟧.formats n) s ⟦<S as Speaks<D>>⟧.readable brought on now r.0 r.1.items) }
     ensures book { IfOk result (λ r. book_of r.0 ≡ ledgers.book_of ledger) }
+    ensures running { IfOk result (λ r. r.0.failed ≡ false) }
     ensures memory { IfErr result (λ r. (r.0 ≡ open_fault.Memory) × (r.1 ≡ ledgers.disks_of ledger)) }
 {
     match Layers::begin(&settings, config, elector, now, ledger.recorded()) {
@@ -252,7 +255,7 @@ fn begin<S: Scheme<D> + Drop, L: Elector<S, D>, D: Digest, K: Disk>(
     node: Node<S, L, D, K>,
     actions: Vec<Action<S, D>>,
 ) -> Result<(Node<S, L, D, K>, Vec<Action<S, D>>), (OpenFault, Disks<K>)>
-    requires running { has_failed (book_of node) ≡ false }
+    requires { has_failed node ≡ false }
     ensures opened { IfOk result (λ r.
         (n : ℕ) (s : Setup S D S.Certificate) (brought : Option (Finalization S D S.PublicKey S.Signature S.Certificate)) (on : Disks K) (now : ℕ)
         → n ≡ S.size s.voter.scheme
@@ -282,7 +285,10 @@ fn begin<S: Scheme<D> + Drop, L: Elector<S, D>, D: Digest, K: Disk>(
     let mut actions = actions;
     match settle(&mut node.core, &mut actions) {
         Ok(()) => Ok((node, actions)),
-        Err(fault) => Err((not_begun(fault), node.into_disks())),
+        Err(fault) => {
+            node.failed = true;
+            Err((not_begun(fault), node.into_disks()))
+        }
     }
 }
 
@@ -305,6 +311,8 @@ fn node_of<S: Scheme<D> + Drop, L: Elector<S, D>, D: Digest, K: Disk>(
     layers: Layers<S, L, D>,
     ledger: Ledger<S, D, K>,
 ) -> Node<S, L, D, K>
+    requires { IsLed S.Scheme L.Elector K.Disk ⟦<S as Speaks<D>>⟧.formats (record
+        { settings = settings; voter = layers.voter; acceptance = layers.acceptance; repair = layers.repair; ledger = ledger; tables = layers.tables }) }
     ensures { result ≡ record
         { core = record { settings = settings; voter = layers.voter; acceptance = layers.acceptance; repair = layers.repair; ledger = ledger; tables = layers.tables }; failed = false } }
 {

@@ -23,7 +23,7 @@ use Rattle.simplex_member.specs.Packet.{Formats}
 use Rattle.simplex_member.specs.Point.{History, Rewrote}
 use Rattle.simplex_member.specs.Recorded.{kept_of}
 use Rattle.simplex_member.specs.Setup.{Setup}
-use Rattle.node_steps.specs.declared.node.Node.{Node}
+use Rattle.node_steps.specs.Nodes.{Node}
 use Rattle.node_steps.specs.Keeps.{NodeKeeps, book_of, disks_of}
 use Rattle.node_steps.specs.Opening.{IsOpenAndSettled}
 use Rattle.node_steps.specs.Rewriting.{NodeIsRewritten}

@@ -20,7 +20,7 @@ use Rattle.simplex_member.specs.Packet.{Formats}
 use Rattle.simplex_member.specs.Point.{History}
 use Rattle.simplex_member.specs.Recorded.{kept_of}
 use Rattle.simplex_member.specs.Setup.{Setup}
-use Rattle.node_steps.specs.declared.node.Node.{Node}
+use Rattle.node_steps.specs.Nodes.{Node}
 use Rattle.node_steps.specs.Keeps.{NodeKeeps, book_of, disks_of, has_failed}
 use Rattle.node_steps.specs.Opening.{IsOpenAndSettled}
 use Rattle.simplex_node.specs.Running.{RunFails, RunsTo}

@@ -13,7 +13,7 @@ use Rattle.simplex_member.specs.declared.fault.NodeFault.TheVariants.{Device, Fa
 use Rattle.simplex_member.specs.Packet.{Formats}
 use Rattle.simplex_member.specs.Point.{History}
 use Rattle.simplex_member.specs.Setup.{Setup}
-use Rattle.node_steps.specs.declared.node.Node.{Node}
+use Rattle.node_steps.specs.Nodes.{Node}
 use Rattle.node_steps.specs.Keeps.{NodeKeeps, book_of, disks_of, has_failed}
 use Rattle.node_wire.specs.Stepper.{Answer, AnswerBefore, AnswersNone}
 use Rattle.simplex_node.specs.Running.{IsPassed, LeavesAtMost, RunFails, RunsTo}

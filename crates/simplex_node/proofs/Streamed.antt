@@ -15,7 +15,7 @@ use Rattle.simplex_member.specs.declared.fault.NodeFault.TheVariants.{Device}
 use Rattle.simplex_member.specs.Packet.{Formats}
 use Rattle.simplex_member.specs.Point.{History}
 use Rattle.simplex_member.specs.Setup.{Setup}
-use Rattle.node_steps.specs.declared.node.Node.{Node}
+use Rattle.node_steps.specs.Nodes.{Node}
 use Rattle.node_steps.specs.Keeps.{NodeKeeps, book_of, disks_of, has_failed}
 use Rattle.node_wire.specs.declared.stretch.Stretch.{Stretch}
 use Rattle.node_wire.specs.Amid.{StepsOver, StopsIn}

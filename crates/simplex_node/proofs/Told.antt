@@ -36,7 +36,7 @@ use Rattle.simplex_member.specs.Point.{History}
 use Rattle.simplex_member.specs.Recorded.{kept_of}
 use Rattle.simplex_member.specs.Setup.{IsOfOneMember, Setup, brought_by, owner_of}
 use Rattle.node_record.specs.Ledger.{IsContradiction}
-use Rattle.node_steps.specs.declared.node.Node.{Node}
+use Rattle.node_steps.specs.Nodes.{Node}
 use Rattle.node_steps.specs.Keeps.{AtOwn, NodeKeeps, book_of, disks_of}
 use Rattle.node_steps.specs.Opening.{IsOpenAndSettled, MayBeLeftOpen, early, open_tests}
 use Rattle.node_wire.specs.declared.listing.Answers.{Answers}

@@ -4,7 +4,7 @@ use Rattle.types_core.specs.declared.scheme.Scheme.{Ghosts}
 use Rattle.types_terms.specs.declared.elector.Elector as elector
 use Rattle.journal_single.specs.declared.disk.Disk as disk
 use Rattle.simplex_member.specs.Layers.{finalized_of}
-use Rattle.node_steps.specs.declared.node.Node.{Node}
+use Rattle.node_steps.specs.Nodes.{Node}
 use Rattle.node_steps.specs.Keeps.{AtAll}
 
 -- asked of a node whether this view, or one above it, is final, this may be answered

@@ -17,7 +17,7 @@ use Rattle.simplex_member.specs.Member.{IsReached, Run}
 use Rattle.simplex_member.specs.Packet.{Formats}
 use Rattle.simplex_member.specs.Point.{History}
 use Rattle.simplex_member.specs.Setup.{Setup}
-use Rattle.node_steps.specs.declared.node.Node.{Node}
+use Rattle.node_steps.specs.Nodes.{Node}
 use Rattle.node_steps.specs.Keeps.{NodeKeeps, book_of, disks_of, has_failed}
 use Rattle.types_codec.specs.Front.{AppendsFront}
 use Rattle.node_wire.specs.Streaming.{StandInFront}

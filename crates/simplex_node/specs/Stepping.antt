@@ -11,7 +11,7 @@ use Rattle.simplex_member.specs.declared.fault.NodeFault.TheVariants.{Device, Fa
 use Rattle.simplex_member.specs.Member.{IsReached, Steps}
 use Rattle.simplex_member.specs.Packet.{Formats}
 use Rattle.simplex_member.specs.Point.{History}
-use Rattle.node_steps.specs.declared.node.Node.{Node}
+use Rattle.node_steps.specs.Nodes.{Node}
 use Rattle.node_steps.specs.Keeps.{AtOwn, NodeKeeps, book_of, disks_of, has_failed}
 
 -- the step of a node over an event may answer so, and leave this node

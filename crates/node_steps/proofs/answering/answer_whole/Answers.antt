@@ -19,3 +19,10 @@ returns-in-Ok-clause-faults g c = tells_behind c.in-Ok.ensures.faults c.go_on.en
 
 pub returns-in-Err-clause-faults : goal.returns-in-Err-clause-faults
 returns-in-Err-clause-faults g c = tells_err _ _ refl refl c.in-Err.ensures.faults
+
+pub answer-requires : goal.answer-requires
+answer-requires g c = c.requires
+
+-- a history leads to where the event was answered
+pub go_on-requires : goal.go_on-requires
+go_on-requires g c = λ none. c.requires (λ s h k few. let at = (c.in-Ok.ensures.answered s h k).ok in none s at.0 at.2 few)

@@ -35,3 +35,6 @@ returns-in-Ok-clause-faults g c = tells_ok c.in-Ok.ensures.faults
 -- nothing was asked of the journal
 pub returns-then-is_some-clause-faults : goal.returns-then-is_some-clause-faults
 returns-then-is_some-clause-faults g c = tells_nothing (book_of c.args.core.now) _
+
+pub settle-requires : goal.settle-requires
+settle-requires g c = c.requires

@@ -7,7 +7,7 @@ use Rattle.simplex_member.specs.Recorded.{kept_of}
 use Rattle.simplex_member.specs.declared.action.Reply.{Reply}
 use Rattle.simplex_member.specs.declared.fault.NodeFault.TheVariants as node_fault
 use Rattle.simplex_member.specs.Packet.{formats}
-use Rattle.node_steps.specs.declared.node.Node.{Node}
+use Rattle.node_steps.specs.Nodes.{Node}
 use Rattle.node_steps.specs.Keeps.{NodeKeeps, book_of, disks_of}
 use Rattle.simplex_node.specs.Living.{IsLeftByTurns}
 use Rattle.simplex_node.specs.Running.{IsPassed}

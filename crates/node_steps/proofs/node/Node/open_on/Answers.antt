@@ -14,6 +14,7 @@ use Rattle.simplex_member.specs.Setup.{IsInTime, brought_by, setup_of}
 use Rattle.node_core.specs.SettingUp.{EndsActs}
 use Rattle.node_steps.specs.Keeps.{disks_of}
 use Rattle.node_steps.specs.Opening.{open_tests}
+use Rattle.node_steps.proofs.Running.{runs_on}
 use Rattle.node_steps.proofs.OfRecord.{never_device, never_early, never_late, never_memory}
 use Rattle.node_steps.proofs.Stepped.{left_at_index, left_back, since_back, told_late}
 use Rattle.node_steps.proofs.Whole.{left-at-opening, open-at-opening, through-at-opening}
@@ -106,7 +107,7 @@ returns-in-Ok-open_over-clause-contradiction g c =
 
 -- the journal that was opened hasn't failed
 pub begin-requires : goal.begin-requires
-begin-requires g c = record { running = subst (λ (b : _). words.has_failed b ≡ false) (sym c.in-Ok-open_over.ensures.book) c.in-Ok-opened.ensures.opened.keeps.runs }
+begin-requires g c = runs_on c.in-Ok-open_over.node c.in-Ok-open_over.ensures.running (subst (λ (b : _). words.has_failed b ≡ false) (sym c.in-Ok-open_over.ensures.book) c.in-Ok-opened.ensures.opened.keeps.runs)
 
 -- nor has a disk failed
 pub returns-in-Ok-open_over-clause-device : goal.returns-in-Ok-open_over-clause-device
@@ -214,3 +215,8 @@ pub open_from-opened-requires-clause-few : goal.open_from-opened-requires-clause
 open_from-opened-requires-clause-few g c =
     let few = subst (λ (z : g.row.S.Denot). g.S.Scheme.size z ≤ 65535) c.deref.ensures c.in-Ok.ensures.few in
     subst (λ (z : g.row.S.Denot). g.S.Scheme.size z ≤ 65535) (sym (c.deref-2.ensures ∙ c.settings_of-settings.ensures.scheme)) few
+
+pub open_over-requires-clause-few : goal.open_over-requires-clause-few
+open_over-requires-clause-few g c =
+    let few = subst (λ (z : g.row.S.Denot). g.S.Scheme.size z ≤ 65535) c.deref.ensures c.in-Ok.ensures.few in
+    subst (λ (z : g.row.S.Denot). g.S.Scheme.size z ≤ 65535) (sym c.settings_of-settings.ensures.scheme) few
