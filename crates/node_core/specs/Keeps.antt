@@ -51,10 +51,11 @@ module _ {S L D P G C K : Type 0} (g : Ghosts S D P G C) (e : elector.Ghosts L S
   abbrev pub AtOwn : (ℕ → Formats S D P G C) → Core S L D K P G C → (Formats S D P G C → Setup S D C → History S D P G C → Type 0) → Type 0
   AtOwn formats node Holds = (s : Setup S D C) (h : History S D P G C) → CoreKeeps (formats (g.size s.voter.scheme)) s node h → Holds (formats (g.size s.voter.scheme)) s h
 
-  -- a history leads here, of a member whose committee a record has room for, and this holds of it: it can't be that of none it does
+  -- some history leads here, of a member whose committee a record has room for, and this holds of it
   abbrev pub AtSome : (ℕ → Formats S D P G C) → Core S L D K P G C → (Formats S D P G C → Setup S D C → History S D P G C → Type 0) → Type 0
-  AtSome formats node Holds = ¬ AtOwn formats node (λ f s h. g.size s.voter.scheme ≤ 65535 → ¬ Holds f s h)
+  AtSome formats node Holds = (s : Setup S D C) × (h : History S D P G C) × CoreKeeps (formats (g.size s.voter.scheme)) s node h
+      × (g.size s.voter.scheme ≤ 65535) × Holds (formats (g.size s.voter.scheme)) s h
 
-  -- some history leads here, of such a member: it can't be that none does
+  -- some history leads here, of such a member
   abbrev pub IsLed : (ℕ → Formats S D P G C) → Core S L D K P G C → Type 0
-  IsLed formats node = ¬ AtOwn formats node (λ f s h. ¬ g.size s.voter.scheme ≤ 65535)
+  IsLed formats node = (s : Setup S D C) × (h : History S D P G C) × CoreKeeps (formats (g.size s.voter.scheme)) s node h × (g.size s.voter.scheme ≤ 65535)

@@ -4,7 +4,8 @@ ghost use Rattle.std.specs.Prelude.{◌≡◌, ◌∷◌, Some, IfErr, IfOk};
 ghost use Rattle.batcher_admission.specs.Evidence.{as_report};
 ghost use Rattle.simplex_messages.specs.VoteParts.{vote_round};
 ghost use Rattle.node_votes.specs.KeepsVotes as accepting;
-ghost use Rattle.node_votes.specs.KeepsVotes.{AtSome, IsNewVote, IsOpenTo};
+ghost use Rattle.node_votes.specs.KeepsVotes.{IsNewVote, IsOpenTo};
+ghost use Rattle.node_inbox.specs.Recounting.{AtSome};
 ghost use Rattle.simplex_member.specs.declared.fault.NodeFault.TheVariants as step_fault;
 ghost use Rattle.simplex_member.specs.Point.{Votes};
 

@@ -7,7 +7,7 @@ ghost use Rattle.messages_certificates.specs.Certificate.{certificate_round};
 ghost use Rattle.voter_history.specs.History.{last_finalized};
 ghost use Rattle.simplex_state.specs.State as voting;
 ghost use Rattle.node_votes.specs.KeepsVotes as accepting;
-ghost use Rattle.node_votes.specs.KeepsVotes.{AtSome};
+ghost use Rattle.node_inbox.specs.Recounting.{AtSome};
 ghost use Rattle.simplex_member.specs.declared.fault.NodeFault.TheVariants as step_fault;
 ghost use Rattle.simplex_member.specs.Deeds.{Finalizes, final_deeds};
 ghost use Rattle.simplex_member.specs.Layers.{finalizes_above, takes_certificate, voter_of};

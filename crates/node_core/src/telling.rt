@@ -1,8 +1,8 @@
 //! What the votes of all views are told of an artifact that the record has.
 
 ghost use Rattle.std.specs.Prelude.{Bool, OnOk};
+ghost use Rattle.node_inbox.specs.Recounting.{AtSome};
 ghost use Rattle.node_votes.specs.KeepsVotes as accepting;
-ghost use Rattle.node_votes.specs.KeepsVotes.{AtSome};
 ghost use Rattle.simplex_member.specs.Point.{Found};
 ghost use Rattle.node_core.specs.Recalling.{CanBeCounted};
 

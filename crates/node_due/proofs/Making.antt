@@ -53,7 +53,6 @@ use Rattle.node_outbox.specs.Handing.{AddsDeeds, both_more, hands_as, nothing_mo
 use Rattle.node_requests.specs.Onward.{is_some_list}
 use Rattle.node_requests.specs.declared.acted.Acted.{Acted}
 use Rattle.node_requests.specs.declared.acted.Acted.TheVariants as came
-use Rattle.node_inbox.specs.Reading.{IsReadAgain}
 use Rattle.node_core.specs.declared.node_state.Core.{Core}
 use Rattle.node_due.specs.Acting.{ComesTo, IsLeftByActs, WasTried}
 use Rattle.node_due.specs.Ahead.{MayCome, VotesAreAhead, VotesGoAhead}
@@ -131,11 +130,6 @@ made_within W (certificate.Finalization c) within = within
 pub made_within_record : {S D P G C : Type 0} (within : ℕ → C → Type 0) (n : ℕ) (made : Option (Certificate S D P G C)) → IfSome made (IsReadable within n) → IfSome made (λ c. artifact_within (within 65535) (certificate_artifact c))
 made_within_record within n None read = tt
 made_within_record within n (Some c) read = made_within (within 65535) c read.1
-
--- so it can be read again
-pub read_again : {S D P G C : Type 0} (W : C → Type 0) (made : Option (Certificate S D P G C)) → ¬ ¬ IfSome made (λ c. artifact_within W (certificate_artifact c)) → IfSome made (λ c. IsReadAgain W (certificate_artifact c))
-read_again W None sure = tt
-read_again W (Some c) sure = sure
 
 -- a certificate that was made, where it has a spelling, can be recorded
 pub made_recordable : {S D P G C : Type 0} (f : Formats S D P G C) (Spelled : Artifact S D P G C → Type 0) (within : ℕ → C → Type 0) (n : ℕ) → ((x : Artifact S D P G C) → Readable Spelled (artifact_within (within n)) x → IsRecordable f x)

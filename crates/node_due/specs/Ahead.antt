@@ -45,7 +45,7 @@ module _ {S D P G C : Type 0} (g : Ghosts S D P G C) (f : Formats S D P G C) (s 
   MayCome Fits h p = IfSome (added_by p) Fits → Allowed g f s h p
 
 module _ {S L D P G C K : Type 0} (g : Ghosts S D P G C) (e : elector.Ghosts L S D P G C) (k : disk.Ghosts K) where
-  -- an own vote that the voter made may be cast where some history leads: it can't be that none does
+  -- an own vote that the voter made may be cast at some history
   abbrev pub MayBeCast : (ℕ → Formats S D P G C) → Core S L D K P G C → Vote S D P G C → Type 0
-  MayBeCast formats node v = ¬ ((s : Setup S D C) (h : History S D P G C) → VoterIsAhead g e k (formats (g.size s.voter.scheme)) s node h (Votes v)
-      → MayCome g (formats (g.size s.voter.scheme)) s (IsRecordable (formats (g.size s.voter.scheme))) h (Votes v) → ¬ IsOpenTo s h (vote_round v))
+  MayBeCast formats node v = (s : Setup S D C) × (h : History S D P G C) × VoterIsAhead g e k (formats (g.size s.voter.scheme)) s node h (Votes v)
+      × MayCome g (formats (g.size s.voter.scheme)) s (IsRecordable (formats (g.size s.voter.scheme))) h (Votes v) × IsOpenTo s h (vote_round v)

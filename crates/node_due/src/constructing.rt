@@ -1,7 +1,7 @@
 //! What is due of the votes of all views: they learn who leads, their proposals go to the voter, certificates are made.
 
 ghost use Rattle.std.specs.Prelude.{◌≡◌, ◌∷◌, ℕ, List, Some, IfErr, IfOk, IfSome, OnOk};
-ghost use Rattle.messages_certificates.specs.Artifact.{artifact_fits, certificate_artifact};
+ghost use Rattle.messages_certificates.specs.Artifact.{artifact_fits, artifact_within, certificate_artifact};
 ghost use Rattle.messages_certificates.specs.declared.certificate.Certificate.{Certificate};
 ghost use Rattle.types_terms.specs.declared.kind.Kind.{Kind};
 ghost use Rattle.batcher_verifier.specs.declared.batch.Batch.{Batch};
@@ -18,7 +18,6 @@ ghost use Rattle.simplex_member.specs.Setup.{Setup};
 ghost use Rattle.node_due.specs.Acting.{WasTried};
 ghost use Rattle.node_due.specs.Ahead.{MayCome, VotesAreAhead, VotesGoAhead};
 ghost use Rattle.node_core.specs.Keeps.{AtOwn, CoreKeeps, IsLed, book_of};
-ghost use Rattle.node_inbox.specs.Reading.{IsReadAgain};
 ghost use Rattle.node_requests.specs.Leading.{NoLeaderToName};
 ghost use Rattle.node_due.specs.NoneDue.{NoConstructionToMake};
 ghost use Rattle.node_core.specs.Telling.{TellsOfBook};
@@ -116,7 +115,7 @@ fn take_batch<S: Scheme<D> + Drop, L: Elector<S, D>, D: Digest, K: Disk>(
     batch: Batch<Certificate<S, D>>,
     out: &mut Vec<Action<S, D>>,
 ) -> Result<Acted, NodeFault>
-    requires { IfSome batch.certificate (λ made. IsReadAgain (S.Certificate.within 65535) (certificate_artifact made)) }
+    requires { IfSome batch.certificate (λ made. artifact_within (S.Certificate.within 65535) (certificate_artifact made)) }
     ensures did { IfOk result (λ done. done ≡ came.Did) }
     ensures taken { OnOk result ((s : Setup S D S.Certificate) (h : History S D S.PublicKey S.Signature S.Certificate) (view : ℕ)
         (kind : Kind)
@@ -162,7 +161,7 @@ fn take_made<S: Scheme<D> + Drop, L: Elector<S, D>, D: Digest, K: Disk>(
     certificate: Certificate<S, D>,
     out: &mut Vec<Action<S, D>>,
 ) -> Result<(), NodeFault>
-    requires { IsReadAgain (S.Certificate.within 65535) (certificate_artifact certificate) }
+    requires { artifact_within (S.Certificate.within 65535) (certificate_artifact certificate) }
     ensures keeps { OnOk result ((s : Setup S D S.Certificate) (h : History S D S.PublicKey S.Signature S.Certificate) (view : ℕ)
         (kind : Kind) (batch : Batch (Certificate S D S.PublicKey S.Signature S.Certificate))
         → let f = (⟦<S as Speaks<D>>⟧.formats (S.size s.voter.scheme)) in VotesGoAhead S.Scheme L.Elector K.Disk f s core.old h
@@ -205,7 +204,7 @@ fn learn_made<S: Scheme<D> + Drop, L: Elector<S, D>, D: Digest, K: Disk>(
     core: &mut Core<S, L, D, K>,
     certificate: &Certificate<S, D>,
 ) -> Result<(), NodeFault>
-    requires { IsReadAgain (S.Certificate.within 65535) (certificate_artifact certificate.now) }
+    requires { artifact_within (S.Certificate.within 65535) (certificate_artifact certificate.now) }
     ensures keeps { OnOk result ((s : Setup S D S.Certificate) (h : History S D S.PublicKey S.Signature S.Certificate) (view : ℕ)
         (kind : Kind) (batch : Batch (Certificate S D S.PublicKey S.Signature S.Certificate))
         → let f = (⟦<S as Speaks<D>>⟧.formats (S.size s.voter.scheme)) in VotesGoAhead S.Scheme L.Elector K.Disk f s core.old h

@@ -6,19 +6,13 @@ use Rattle.std.proofs.lemmas.Option.{none-some, same_Some}
 use Rattle.types_codec.specs.declared.codec.CodecError.{CodecError}
 use Rattle.types_codec.specs.Codec.{IsCodec, SpellsNone}
 use Rattle.types_codec.specs.Varint.{varint_at}
-use Rattle.messages_certificates.specs.declared.artifact.Artifact.{Artifact}
 use Rattle.messages_certificates.specs.declared.certificate.Certificate.{Certificate}
-use Rattle.messages_certificates.specs.Artifact.{artifact_within}
 use Rattle.messages_certificates.specs.Certificate.{any_certificate_at, any_certificate_spelling}
 use Rattle.simplex_messages.specs.declared.vote.Vote.{Vote}
 use Rattle.simplex_messages.specs.Vote.{any_vote_at}
 use Rattle.simplex_member.specs.declared.event.Channel.{Channel}
 use Rattle.simplex_member.specs.declared.event.Channel.TheVariants as channel
 use Rattle.simplex_member.specs.Packet.{Packet, of_ask, of_certificate, of_vote, packet_at, whole}
-
--- an artifact can be read again, by what the bound of a record asks of a certificate: that it can't is out of the question
-abbrev pub IsReadAgain : {S D P G C : Type 0} → (C → Type 0) → Artifact S D P G C → Type 0
-IsReadAgain W x = ¬ ¬ artifact_within W x
 
 module _ {A : Type 0} {Fits : A → Type 0} {spelling : A → List ℕ} {reading : List ℕ → Result (A × List ℕ) CodecError} (codec : IsCodec Fits spelling reading) (bytes : List ℕ) where
   -- the value that they spell

@@ -1,7 +1,7 @@
 //! The one place where the record grows.
 
 ghost use Rattle.std.specs.Prelude.{◌≡◌, ◌≢◌, ◌++◌, ◌∷◌, [], List, map, true, false, IfErr, OnOk, IsErrOf};
-ghost use Rattle.messages_certificates.specs.Artifact.{artifact_fits, artifact_spelling};
+ghost use Rattle.messages_certificates.specs.Artifact.{artifact_fits, artifact_spelling, artifact_within};
 ghost use Rattle.messages_certificates.specs.declared.artifact.Artifact.{Artifact};
 ghost use Rattle.simplex_record.specs.declared.owner.Owner.{Owner};
 ghost use Rattle.simplex_record.specs.Record.{entry, entries};
@@ -10,9 +10,8 @@ ghost use Rattle.journal_books.specs.Books.{HasFailed, HasNotFailed, IsWithOrWit
 ghost use Rattle.simplex_member.specs.declared.fault.NodeFault.{NodeFault};
 ghost use Rattle.simplex_member.specs.declared.fault.NodeFault.TheVariants as step_fault;
 ghost use Rattle.node_record.specs.Ledger.{KeepsRecord, book_of, disks_of};
-ghost use Rattle.node_inbox.specs.Reading.{IsReadAgain};
 
-use journal_single::{BOUND, Disk};
+use journal_single::Disk;
 use messages_certificates::Artifact;
 use node_record::{Ledger, a_ledger_at_rest_leaves_its_record};
 use simplex_member::NodeFault;
@@ -33,7 +32,7 @@ pub fn record<S: Scheme<D>, D: Digest, K: Disk>(
     ledger: &mut Ledger<S, D, K>,
     artifact: Artifact<S, D>,
 ) -> Result<(), NodeFault>
-    requires { IsReadAgain (S.Certificate.within 65535) artifact }
+    requires { artifact_within (S.Certificate.within 65535) artifact }
     ensures keeps { OnOk result ((owner : Owner) (xs : List (Artifact S D S.PublicKey S.Signature S.Certificate))
         → KeepsRecord K.Disk (artifact_spelling D.spelling S.Signature.spelling S.Certificate.spelling) owner ledger.old xs
         → MayFollow owner.term_length (entries xs) (entry artifact)
@@ -63,9 +62,6 @@ pub fn record<S: Scheme<D>, D: Digest, K: Disk>(
     a_ledger_at_rest_leaves_its_record::<S, D, K>();
     if artifact.encode_size() > LONGEST {
         return Err(NodeFault::Memory);
-    }
-    if !artifact.is_within(BOUND) {
-        unreachable!()
     }
     ledger.record(artifact)
 }

@@ -7,8 +7,9 @@ ghost use Rattle.messages_certificates.specs.Certificate.{certificate_round};
 ghost use Rattle.simplex_messages.specs.VoteParts.{vote_artifact};
 ghost use Rattle.batcher_verifier.specs.declared.batcher_fault.BatcherFault.TheVariants as batcher_fault;
 ghost use Rattle.node_votes.specs.KeepsVotes as accepting;
-ghost use Rattle.node_votes.specs.KeepsVotes.{AtSome, IsNewVote};
+ghost use Rattle.node_votes.specs.KeepsVotes.{IsNewVote};
 ghost use Rattle.simplex_member.specs.Point.{Found};
+ghost use Rattle.node_inbox.specs.Recounting.{AtSome};
 
 use batcher_verifier::BatcherFault;
 use messages_certificates::Certificate;

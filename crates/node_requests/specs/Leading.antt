@@ -14,10 +14,10 @@ use Rattle.simplex_member.specs.Setup.{Setup}
 use Rattle.node_requests.specs.declared.acted.Acted.{Acted}
 use Rattle.node_requests.specs.declared.acted.Acted.TheVariants as came
 
--- a history leads to this voter and these votes of all views: it can't be that none does
+-- some history leads to this voter and to these votes of all views
 abbrev pub AreLed : {S L D P G C : Type 0} → Ghosts S D P G C → elector.Ghosts L S D P G C → (D → D → Bool) → State S L D P G C → Acceptance S D P G C → Type 0
 AreLed {S} {L} {D} {P} {G} {C} g e same voter acceptance =
-    ¬ ((s : Setup S D C) (h : History S D P G C) → voting.Keeps g e s.voter voter (voter_of s h) → ¬ accepting.Keeps g same s acceptance h)
+    (s : Setup S D C) × (h : History S D P G C) × voting.Keeps g e s.voter voter (voter_of s h) × accepting.Keeps g same s acceptance h
 
 module _ {S D P G C : Type 0} (s : Setup S D C) where
   -- the votes of each view know who leads it, as far as the voter does

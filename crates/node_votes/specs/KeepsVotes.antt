@@ -76,10 +76,6 @@ module _ {S D P G C : Type 0} (g : Ghosts S D P G C) (same : D → D → Bool) w
   abbrev pub AtEach : Acceptance S D P G C → (Setup S D C → History S D P G C → Type 0) → Type 0
   AtEach a Holds = (s : Setup S D C) (h : History S D P G C) → Keeps s a h → Holds s h
 
-  -- a history leads here of which this holds: it can't be that of none it does
-  abbrev pub AtSome : Acceptance S D P G C → (Setup S D C → History S D P G C → Type 0) → Type 0
-  AtSome a Holds = ¬ AtEach a (λ s h. ¬ Holds s h)
-
   -- of the votes of no view a construction is due, nor a proposal to forward
   pub record NoneIsDue (s : Setup S D C) (h : History S D P G C) : Type 0 where
     pub no_construction : (view : ℕ) → IsUp (stage s h view) → next_kind same (votes_setup s g h view) (votes_of s h view) ≡ None

@@ -1,4 +1,4 @@
--- Lemmas: where votes are refused for want of memory alone.
+-- An own vote that is new is refused for want of memory alone.
 use Rattle.std.proofs.Common.{◌≡◌, ◌≢◌, ◌∙◌, Bool, true, false, refl, sym, ap, subst}
 use Rattle.std.specs.Prelude.{Option, Some, None, is_none, is_some}
 use Rattle.std.specs.Option.{option_and_then}
@@ -16,20 +16,12 @@ use Rattle.simplex_member.specs.Layers.{votes_of, votes_setup}
 use Rattle.simplex_member.specs.Point.{History}
 use Rattle.simplex_member.specs.Setup.{Setup}
 
--- a fault is want of memory where it can't be that it isn't
-pub no-other : (why : BatcherFault) → ¬ (why ≢ fault.Memory) → why ≡ fault.Memory
-no-other fault.Memory sure = refl
-no-other fault.WrongRound sure = absurd (sure (λ is. cc is))
-no-other fault.OtherLeader sure = absurd (sure (λ is. cc is))
-no-other fault.Contradicts sure = absurd (sure (λ is. cc is))
-
 -- nothing comes of what isn't there
 none-then : {A B : Type 0} (o : Option A) (then : A → Option B) → is_none o ≡ true → is_some (option_and_then then o) ≡ true → ⊥
 none-then None then free some = cc some
 none-then (Some x) then free some = cc free
 
 module _ {S D P G C : Type 0} (g : Ghosts S D P G C) (same : D → D → Bool) (s : Setup S D C) (h : History S D P G C) (v : Vote S D P G C) where
-  -- an own vote that is new is refused for nothing else
   pub for-memory : IsNewVote g s h v → (why : BatcherFault) → IsCastFault same (votes_setup s g h (vote_round v).view) (votes_of s h (vote_round v).view) v why → why ≡ fault.Memory
   for-memory new fault.WrongRound is = absurd (is (ap (λ e. record { epoch = e; view = (vote_round v).view }) new.epoch))
   for-memory new fault.OtherLeader is = absurd is

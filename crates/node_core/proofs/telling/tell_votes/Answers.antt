@@ -9,9 +9,10 @@ use Rattle.node_core.proofs.SaidSo.{its-epoch, its-room, new-own}
 use Rattle.node_core.proofs.telling.tell_votes.Goals as goal
 
 pub recount_vote-requires : goal.recount_vote-requires
-recount_vote-requires g c = λ none.
+recount_vote-requires g c =
+    let at = c.requires in
     let is = sym c.in_ok-duplicate.ensures ∙ (c.from.ensures ∙ ap said_artifact c.in-Vote.is) in
-    c.requires (λ s h k counted. none s h k (new-own g.S.Scheme s h c.args.artifact.now c.in-Vote.vote is counted))
+    (at.0, at.1, at.2, new-own g.S.Scheme at.0 at.1 c.args.artifact.now c.in-Vote.vote is at.3)
 
 pub returns-in-Vote : goal.returns-in-Vote
 returns-in-Vote g c = on_ok_weaker c.recount_vote.result (λ told s h k taken counted.
@@ -20,9 +21,10 @@ returns-in-Vote g c = on_ok_weaker c.recount_vote.result (λ told s h k taken co
     (told s h k taken (new-own g.S.Scheme s h c.args.artifact.now c.in-Vote.vote is counted))) c.recount_vote.ensures
 
 pub recount_certificate-requires : goal.recount_certificate-requires
-recount_certificate-requires g c = λ none.
+recount_certificate-requires g c =
+    let at = c.requires in
     let is = sym c.in_ok-duplicate.ensures ∙ (c.from.ensures ∙ ap said_artifact c.in-Certificate.is) in
-    c.requires (λ s h k counted. none s h k (its-epoch g.S.Scheme s h c.args.artifact.now c.in-Certificate.certificate is counted))
+    (at.0, at.1, at.2, its-epoch g.S.Scheme at.0 at.1 c.args.artifact.now c.in-Certificate.certificate is at.3)
 
 pub returns-in-Certificate : goal.returns-in-Certificate
 returns-in-Certificate g c = on_ok_weaker c.recount_certificate.result (λ told s h k taken counted.

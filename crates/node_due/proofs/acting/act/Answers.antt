@@ -65,11 +65,12 @@ returns-clause-faults g c = tells_behind c.in-Ok-Nothing.ensures.faults (tells_b
 
 -- a history leads to where each act leaves off
 pub go_by_votes-requires : goal.go_by_votes-requires
-go_by_votes-requires g c = λ none. c.requires (λ s h k few. let at = leads (c.in-Ok-Nothing.ensures.tried s h k) in none s at.0 at.1 few)
+go_by_votes-requires g c = let from = c.requires in let at = leads (c.in-Ok-Nothing.ensures.tried from.0 from.1 from.2) in (from.0, at.0, at.1, from.3)
 
 pub vote-requires : goal.vote-requires
-vote-requires g c = λ none. c.requires (λ s h k few.
-    let one = leads (c.in-Ok-Nothing.ensures.tried s h k) in
-    let two = leads (c.in-Ok-Nothing-go_by_votes.ensures.tried s one.0 one.1) in
-    let at = leads (c.in-Ok-Nothing-ask_for_more.ensures.tried s two.0 two.1) in
-    none s at.0 at.1 few)
+vote-requires g c =
+    let from = c.requires in
+    let one = leads (c.in-Ok-Nothing.ensures.tried from.0 from.1 from.2) in
+    let two = leads (c.in-Ok-Nothing-go_by_votes.ensures.tried from.0 one.0 one.1) in
+    let at = leads (c.in-Ok-Nothing-ask_for_more.ensures.tried from.0 two.0 two.1) in
+    (from.0, at.0, at.1, from.3)

@@ -42,4 +42,4 @@ pub try_leader-requires : goal.try_leader-requires
 try_leader-requires g c = c.requires
 
 pub try_votes_of_views-requires : goal.try_votes_of_views-requires
-try_votes_of_views-requires g c = λ none. c.requires (λ s h k few. let at = leads (c.in-Ok-Nothing.ensures.tried s h k c.args.out.now.items) in none s at.0 at.1 few)
+try_votes_of_views-requires g c = let from = c.requires in let at = leads (c.in-Ok-Nothing.ensures.tried from.0 from.1 from.2 c.args.out.now.items) in (from.0, at.0, at.1, from.3)

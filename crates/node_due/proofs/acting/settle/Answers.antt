@@ -48,4 +48,4 @@ returns-clause-faults g c = tells_behind c.acts.invariant.told c.say_when-2.ensu
 
 -- a history leads to where the acts so far leave off
 pub act-requires : goal.act-requires
-act-requires g c = λ none. c.requires (λ s h k few. let far = c.acts.invariant.acts s h k in none s far.did.end far.did.acted.keeps few)
+act-requires g c = let from = c.requires in let far = c.acts.invariant.acts from.0 from.1 from.2 in (from.0, far.did.end, far.did.acted.keeps, from.3)

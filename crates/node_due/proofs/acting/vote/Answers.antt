@@ -47,10 +47,11 @@ pub try_notarize-requires : goal.try_notarize-requires
 try_notarize-requires g c = c.requires
 
 pub try_finalize-requires : goal.try_finalize-requires
-try_finalize-requires g c = λ none. c.requires (λ s h k few. let at = leads (c.in-Ok-Nothing.ensures.tried s h k) in none s at.0 at.1 few)
+try_finalize-requires g c = let from = c.requires in let at = leads (c.in-Ok-Nothing.ensures.tried from.0 from.1 from.2) in (from.0, at.0, at.1, from.3)
 
 pub try_nullify-requires : goal.try_nullify-requires
-try_nullify-requires g c = λ none. c.requires (λ s h k few.
-    let one = leads (c.in-Ok-Nothing.ensures.tried s h k) in
-    let at = leads (c.in-Ok-Nothing-try_finalize.ensures.tried s one.0 one.1) in
-    none s at.0 at.1 few)
+try_nullify-requires g c =
+    let from = c.requires in
+    let one = leads (c.in-Ok-Nothing.ensures.tried from.0 from.1 from.2) in
+    let at = leads (c.in-Ok-Nothing-try_finalize.ensures.tried from.0 one.0 one.1) in
+    (from.0, at.0, at.1, from.3)

@@ -73,19 +73,25 @@ returns-in-Ok-hand_cast_out-clause-taken g c = λ s h ahead may opens.
 
 -- a vote can be read again under any bound
 pub record-requires : goal.record-requires
-record-requires g c = λ never. never (subst (artifact_within (g.S.Certificate.Read.within 65535)) (sym c.in-Ok.ensures.copy) (vote_within (g.S.Certificate.Read.within 65535) c.args.vote))
+record-requires g c = subst (artifact_within (g.S.Certificate.Read.within 65535)) (sym c.in-Ok.ensures.copy) (vote_within (g.S.Certificate.Read.within 65535) c.args.vote)
 
 -- nothing that was accepted stands in its way
 pub tell_own_vote-requires : goal.tell_own_vote-requires
-tell_own_vote-requires g c = λ none. c.requires (λ s h ahead may opens.
+tell_own_vote-requires g c =
+    let from = c.requires in
+    let s = from.0 in
+    let h = from.1 in
+    let ahead = from.2 in
+    let may = from.3 in
+    let opens = from.4 in
     let f = formats {S = g.row.S.Denot} {P = g.row.S-PublicKey.Denot} g.D.PartialEq.eq g.D.Write.spelling g.S.Signature.Write.spelling g.S.Certificate.Write.spelling g.D.Read.reading g.S.Signature.Read.reading g.S.Certificate.Read.reading (g.S.Scheme.size s.voter.scheme) in
     let v = c.args.vote in
     let k = ahead.keeps in
     let small : g.S.Scheme.size s.voter.scheme < 2 ^ 32 = subst (λ (n : ℕ). n < 2 ^ 32) (c.participants-members.ensures.value ∙ ap g.S.Scheme.size (c.deref.ensures ∙ ahead.keeps.set_up.scheme_is)) (omega (arith, c.participants-members.type_inv)) in
     let may_now = may (vote_recordable f _ _ (c.packets_are_read_back.ensures.recordable (g.S.Scheme.size s.voter.scheme) small) c.in-Ok.artifact c.args.vote c.in-Ok.ensures.copy c.record.ensures.readable) in
-    none s h k.votes (record {
+    (s, h, k.votes, record {
       epoch = opens.epoch;
       room = opens.room;
       attests = vote_attests (g.S.Scheme.attests s.voter.scheme) (g.S.Scheme.certifies s.voter.scheme) (owner_of s) v may_now.fits.verifies;
       free = c.own_votes_come_free.ensures.made f s h v (c.packets_are_read_back.ensures.exact (g.S.Scheme.size s.voter.scheme)) (may_now, k.allowed) opens.room;
-    }))
+    })

@@ -52,7 +52,12 @@ returns-in-Err-clause-tried g c = λ s h k due retry_known.
 
 -- what is due may be cast
 pub cast-requires : goal.cast-requires
-cast-requires g c = λ none. c.requires (λ s h k few due.
+cast-requires g c =
+    let from = c.requires in
+    let s = from.0 in
+    let h = from.1 in
+    let k = from.2 in
+    let due = from.4 in
     let f = formats {S = g.row.S.Denot} {P = g.row.S-PublicKey.Denot} g.D.PartialEq.eq g.D.Write.spelling g.S.Signature.Write.spelling g.S.Certificate.Write.spelling g.D.Read.reading g.S.Signature.Read.reading g.S.Certificate.Read.reading (g.S.Scheme.size s.voter.scheme) in
     let v = c.in-Ok-Some.vote in
     let view = c.current_view-view.result in
@@ -64,4 +69,4 @@ cast-requires g c = λ none. c.requires (λ s h k few due.
     let may = nullify_allowed g.S.Scheme f s h k.begun k.set_up.me_is v view k.allowed (c.due_may_be_recorded.ensures.votes f s g.met.D.Digest.equal_is_same) at is_due first is.2 in
     let ahead = is_ahead g.S.Scheme g.L.Elector g.K.Disk f s c.args.core.now c.construct_nullify.new.self h (Votes (vote.Nullify v)) k
     (ahead_nullify g.S.Scheme g.L.Elector g.K.Disk f s c.construct_nullify.new.self h v view (ap (λ (r : Round). r.view) is.2.round) made) in
-    none s h ahead may (open_to_nullify g.S.Scheme f s h v.round view is.2.round is.0))
+    (s, h, ahead, may, open_to_nullify g.S.Scheme f s h v.round view is.2.round is.0)

@@ -42,7 +42,11 @@ returns-in-None-clause-tried g c = λ s h k.
 
 -- what is due may be cast
 pub cast-requires : goal.cast-requires
-cast-requires g c = λ none. c.requires (λ s h k few.
+cast-requires g c =
+    let from = c.requires in
+    let s = from.0 in
+    let h = from.1 in
+    let k = from.2 in
     let f = formats {S = g.row.S.Denot} {P = g.row.S-PublicKey.Denot} g.D.PartialEq.eq g.D.Write.spelling g.S.Signature.Write.spelling g.S.Certificate.Write.spelling g.D.Read.reading g.S.Signature.Read.reading g.S.Certificate.Read.reading (g.S.Scheme.size s.voter.scheme) in
     let v = c.in-Some-construct_finalize.vote in
     let view = c.in-Some.view in
@@ -52,4 +56,4 @@ cast-requires g c = λ none. c.requires (λ s h k few.
     let may = finalize_allowed g.S.Scheme f s h k.begun k.set_up.me_is v view k.allowed (c.due_may_be_recorded.ensures.votes f s g.met.D.Digest.equal_is_same) is.0 is.1 is.2 round in
     let ahead = is_ahead g.S.Scheme g.L.Elector g.K.Disk f s c.args.core.now c.construct_finalize.new.self h (Votes (vote.Finalize v)) k
     (ahead_finalize g.S.Scheme g.L.Elector g.K.Disk f s c.construct_finalize.new.self h v view (ap (λ (r : Round). r.view) round) (said.keeps s.voter (voter_of s h) k.voter)) in
-    none s h ahead may (open_to_finalize g.S.Scheme f s h v.proposal.round view round is.0))
+    (s, h, ahead, may, open_to_finalize g.S.Scheme f s h v.proposal.round view round is.0)

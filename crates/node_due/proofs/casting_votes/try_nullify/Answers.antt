@@ -58,7 +58,11 @@ returns-in-Err-clause-tried g c = λ s h k.
 
 -- a history leads to where the voter was asked, and a nullify is due there where the view may be given up
 pub give_up-requires : goal.give_up-requires
-give_up-requires g c = λ none. c.requires (λ s h k few.
+give_up-requires g c =
+    let from = c.requires in
+    let s = from.0 in
+    let h = from.1 in
+    let k = from.2 in
     let f = formats {S = g.row.S.Denot} {P = g.row.S-PublicKey.Denot} g.D.PartialEq.eq g.D.Write.spelling g.S.Signature.Write.spelling g.S.Certificate.Write.spelling g.D.Read.reading g.S.Signature.Read.reading g.S.Certificate.Read.reading (g.S.Scheme.size s.voter.scheme) in
     let node = c.args.core.now in
     let at = after_poll s h in
@@ -67,5 +71,4 @@ give_up-requires g c = λ none. c.requires (λ s h k few.
     let stands = behind_poll g.S.Scheme g.L.Elector g.K.Disk f s node c.is_given_up.new.voter h c.silent_points_leave_votes.ensures.quiet k (c.in-Ok-true.ensures.looks node.repair s h asker) in
     let now = latest_after g.S.Scheme f s h in
     let here = current_after g.S.Scheme f s h in
-    none s at stands few
-    (λ may. subst (λ (t : ℕ). NullifyIsDue s.voter (voter_of s at) t) (sym now) ((due (subst (λ (view : ℕ). MayGiveUp s.voter (voter_of s at) view) here may)).0 c.in-Ok-true.field-0-test)))
+    (s, at, stands, from.3, λ may. subst (λ (t : ℕ). NullifyIsDue s.voter (voter_of s at) t) (sym now) ((due (subst (λ (view : ℕ). MayGiveUp s.voter (voter_of s at) view) here may)).0 c.in-Ok-true.field-0-test))

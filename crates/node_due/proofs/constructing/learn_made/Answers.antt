@@ -1,6 +1,5 @@
 use Rattle.std.proofs.Common.{sym, subst}
-use Rattle.messages_certificates.specs.declared.artifact.Artifact.{Artifact}
-use Rattle.node_inbox.specs.Reading.{IsReadAgain}
+use Rattle.messages_certificates.specs.Artifact.{artifact_within}
 use Rattle.simplex_member.specs.Layers.{finalized_of, repair_of, voter_of}
 use Rattle.simplex_member.specs.Packet.{formats}
 use Rattle.simplex_member.specs.Point.{Constructs}
@@ -57,4 +56,4 @@ returns-clause-keeps g c = λ s h view kind batch ahead may is.
 
 -- it can be read again
 pub record-requires : goal.record-requires
-record-requires g c = subst (λ (x : Artifact g.row.S.Denot g.row.D.Denot g.row.S-PublicKey.Denot g.row.S-Signature.Denot g.row.S-Certificate.Denot). IsReadAgain (g.S.Certificate.Read.within 65535) x) (sym c.in-Ok.ensures.copy) c.requires
+record-requires g c = subst (artifact_within (g.S.Certificate.Read.within 65535)) (sym c.in-Ok.ensures.copy) c.requires

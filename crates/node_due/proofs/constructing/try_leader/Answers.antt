@@ -7,4 +7,4 @@ returns-clause-tried g c = λ s h k actions.
     (if_ok_by c.name_leader.result c.name_leader.ensures.named (λ acted named. named s h k.voter k.votes))
 
 pub name_leader-requires : goal.name_leader-requires
-name_leader-requires g c = λ none. c.requires (λ s h k few. none s h k.voter k.votes)
+name_leader-requires g c = let at = c.requires in (at.0, at.1, at.2.voter, at.2.votes)

@@ -17,7 +17,7 @@ use Rattle.node_due.specs.NoneDue.{NoConstructionToMake}
 use Rattle.node_core.specs.Taking.{IsLeftBy}
 use Rattle.node_core.specs.Standing.{still-keeps}
 use Rattle.node_core.specs.Leaving.{left_at_rest}
-use Rattle.node_due.proofs.Making.{constructs, forwards, made_recordable, made_within_record, nothing_due, read_again, tried_failed, tried_none, tried_one}
+use Rattle.node_due.proofs.Making.{constructs, forwards, made_recordable, made_within_record, nothing_due, tried_failed, tried_none, tried_one}
 use Rattle.node_due.proofs.constructing.try_votes_of_views.Goals as goal
 
 pub returns-in-Ok-Some-default-Forwards-clause-tried : goal.returns-in-Ok-Some-default-Forwards-clause-tried
@@ -59,4 +59,5 @@ returns-in-Err-clause-tried g c = λ s h k.
 pub take_batch-requires : goal.take_batch-requires
 take_batch-requires g c =
     let readable = rw (c.in-Ok-Some-default-Made.field-0-is, c.in-Ok-Some-default-Made.field-0-0-1-is) at c.in-Ok-Some-default-Made.ensures.readable in
-    read_again (g.S.Certificate.Read.within 65535) c.in-Ok-Some-default-Made.batch.certificate (λ never. c.requires (λ s h k few. never (made_within_record g.S.Certificate.Read.within (g.S.Scheme.size s.voter.scheme) c.in-Ok-Some-default-Made.batch.certificate (readable s h k.votes))))
+    let at = c.requires in
+    made_within_record g.S.Certificate.Read.within (g.S.Scheme.size at.0.voter.scheme) c.in-Ok-Some-default-Made.batch.certificate (readable at.0 at.1 at.2.votes)

@@ -4,7 +4,3 @@ use Rattle.node_inbox.proofs.recording.record.Goals as goal
 -- nothing was asked of the disk
 pub returns-then-encode_size-gt-LONGEST-clause-any_moment : goal.returns-then-encode_size-gt-LONGEST-clause-any_moment
 returns-then-encode_size-gt-LONGEST-clause-any_moment g c = λ owner xs k keeps. left_without g.K.Disk _ _ _ _ (c.a_ledger_at_rest_leaves_its_record.ensures owner c.args.ledger.now xs k keeps)
-
--- it can be read again
-pub unreachable-requires : goal.unreachable-requires
-unreachable-requires g c = c.requires (λ within. let yes = c.is_within.ensures.1 within in cc (yes, c.if-not-is_within.true))

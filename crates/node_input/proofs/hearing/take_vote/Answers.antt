@@ -3,7 +3,6 @@ use Rattle.std.specs.Prelude.{Option, option_to_list}
 use Rattle.simplex_messages.specs.declared.activity.Activity.{Activity}
 use Rattle.simplex_messages.specs.VoteParts.{vote_round}
 use Rattle.node_votes.specs.KeepsVotes.{IsOpenTo}
-use Rattle.node_votes.specs.Refusing.{no-other}
 use Rattle.simplex_member.specs.Deeds.{Blocks, Reports}
 use Rattle.simplex_member.specs.Layers.{finalized_of}
 use Rattle.simplex_member.specs.Packet.{formats}
@@ -57,4 +56,4 @@ returns-clause-heard g c = λ s h k another may.
 
 -- a vote of the epoch is refused for want of memory alone
 pub refused_for-requires : goal.refused_for-requires
-refused_for-requires g c = no-other c.in-Err.fault (λ other. c.requires (λ s h k few may. other (c.in-Err.ensures.fault s h k.votes may.epoch)))
+refused_for-requires g c = let at = c.requires in c.in-Err.ensures.fault at.0 at.1 at.2.votes at.4.epoch

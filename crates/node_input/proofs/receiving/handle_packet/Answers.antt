@@ -26,7 +26,10 @@ returns-in-Err-clause-handled g c = λ s h k none.
 
 -- a history that leads here decides what is done with it
 pub handle_decided-requires : goal.handle_decided-requires
-handle_decided-requires g c = λ none. c.requires (λ s h k few.
+handle_decided-requires g c =
+    let at = c.requires in
+    let s = at.0 in
+    let h = at.1 in
+    let k = at.2 in
     let f = formats {S = g.row.S.Denot} {P = g.row.S-PublicKey.Denot} g.D.PartialEq.eq g.D.Write.spelling g.S.Signature.Write.spelling g.S.Certificate.Write.spelling g.D.Read.reading g.S.Signature.Read.reading g.S.Certificate.Read.reading (g.S.Scheme.size s.voter.scheme) in
-    none s h k few
-    (c.args.channel, subst (λ (l : List ℕ). IsDecided g.S.Scheme f s h c.args.sender (f.packet_in c.args.channel l) (bytes_tests g.S.Scheme f s h c.args.sender c.args.channel l) c.in-Ok.decided) c.deref.ensures.value (c.in-Ok.ensures.decided s h k)))
+    (s, h, k, at.3, c.args.channel, subst (λ (l : List ℕ). IsDecided g.S.Scheme f s h c.args.sender (f.packet_in c.args.channel l) (bytes_tests g.S.Scheme f s h c.args.sender c.args.channel l) c.in-Ok.decided) c.deref.ensures.value (c.in-Ok.ensures.decided s h k))

@@ -71,13 +71,18 @@ returns-clause-taken g c = λ s h k allowed.
 
 -- what was read in its committee can be read again
 pub record-requires : goal.record-requires
-record-requires g c = λ never. c.requires (λ s h k few allowed.
-    let n = g.S.Scheme.size s.voter.scheme in
+record-requires g c =
+    let at = c.requires in
+    let n = g.S.Scheme.size at.0.voter.scheme in
+    let few = at.3 in
     let small : n < 2 ^ 32 = omega (arith, few) in
     let codec = artifact-IsCodec (bounded-IsCodec (g.met.D.Read.one_spelling n small) (g.met.D.Digest.unbounded n)) (bounded-IsCodec (g.met.S.Signature.Read.one_spelling n small) (g.met.S.Signature.Signature.unbounded n)) (g.met.S.Certificate.Read.one_spelling n small) in
-    let fits = whole-fits codec allowed.readable.0 (certificate_artifact c.args.certificate.now) allowed.readable.1 in
-    never (subst (artifact_within (g.S.Certificate.Read.within 65535)) (sym c.in-Ok.ensures.copy) (artifact_within-weaker (λ x within. g.met.S.Certificate.Read.grows n 65535 x few within) (certificate_artifact c.args.certificate.now) fits.1)))
+    let fits = whole-fits codec at.4.readable.0 (certificate_artifact c.args.certificate.now) at.4.readable.1 in
+    subst (artifact_within (g.S.Certificate.Read.within 65535)) (sym c.in-Ok.ensures.copy) (artifact_within-weaker (λ x within. g.met.S.Certificate.Read.grows n 65535 x few within) (certificate_artifact c.args.certificate.now) fits.1)
 
 -- it is of the epoch
 pub tell_votes-requires : goal.tell_votes-requires
-tell_votes-requires g c = λ none. c.requires (λ s h k few allowed. none s h k.votes (of-epoch (g.S.Scheme.attests s.voter.scheme) (g.S.Scheme.certifies s.voter.scheme) (owner_of s) c.args.certificate.now allowed.fits.verifies))
+tell_votes-requires g c =
+    let at = c.requires in
+    let s = at.0 in
+    (s, at.1, at.2.votes, of-epoch (g.S.Scheme.attests s.voter.scheme) (g.S.Scheme.certifies s.voter.scheme) (owner_of s) c.args.certificate.now at.4.fits.verifies)

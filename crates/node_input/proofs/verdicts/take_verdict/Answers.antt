@@ -56,4 +56,4 @@ returns-in-Err-clause-any_moment g c = λ s h k awaited keeps.
 
 -- a verdict can be read again under any bound
 pub record-requires : goal.record-requires
-record-requires g c = λ never. never (verdict_within _ c.new-round.result c.args.ok)
+record-requires g c = verdict_within _ c.new-round.result c.args.ok

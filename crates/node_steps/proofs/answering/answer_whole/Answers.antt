@@ -25,4 +25,4 @@ answer-requires g c = c.requires
 
 -- a history leads to where the event was answered
 pub go_on-requires : goal.go_on-requires
-go_on-requires g c = λ none. c.requires (λ s h k few. let at = (c.in-Ok.ensures.answered s h k).ok in none s at.0 at.2 few)
+go_on-requires g c = let from = c.requires in let at = (c.in-Ok.ensures.answered from.0 from.1 from.2).ok in (from.0, at.0, at.2, from.3)

@@ -26,10 +26,10 @@ begin-requires-clause-ready g c =
 
 -- a history leads to all that the node holds
 pub node_of-requires : goal.node_of-requires
-node_of-requires g c = λ none.
+node_of-requires g c =
     let ready = c.requires.ready in
     let s = setup_of g.S.Scheme g.L.Elector c.args.config.now c.args.settings.scheme.value c.args.elector ready.0 in
     let f = formats {S = g.row.S.Denot} {P = g.row.S-PublicKey.Denot} g.D.PartialEq.eq g.D.Write.spelling g.S.Signature.Write.spelling g.S.Certificate.Write.spelling g.D.Read.reading g.S.Signature.Read.reading g.S.Certificate.Read.reading (g.S.Scheme.size s.voter.scheme) in
     let t = ready.1 in
     let begun = c.in-Ok.ensures (g.S.Scheme.size s.voter.scheme) ready.0 t.found t.set_up t.in_time (record { holds = c.recorded.ensures (owner_of s) t.found t.keeps; lawful = t.lawful }) in
-    none s begun.end (holds-begun g.S.Scheme g.L.Elector g.K.Disk f s c.args.now c.args.settings c.in-Ok.layers c.args.ledger t.found c.in-Ok.actions.items t.set_up begun t.keeps) c.requires.few
+    (s, begun.end, holds-begun g.S.Scheme g.L.Elector g.K.Disk f s c.args.now c.args.settings c.in-Ok.layers c.args.ledger t.found c.in-Ok.actions.items t.set_up begun t.keeps, c.requires.few)

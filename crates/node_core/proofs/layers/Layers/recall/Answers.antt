@@ -27,7 +27,7 @@ tell_voter-requires g c =
     }
 
 pub tell_votes-requires : goal.tell_votes-requires
-tell_votes-requires g c = λ none.
+tell_votes-requires g c =
     let x = c.args.artifact.now in
     let fs = formats {S = g.row.S.Denot} {P = g.row.S-PublicKey.Denot} g.D.PartialEq.eq g.D.Write.spelling g.S.Signature.Write.spelling g.S.Certificate.Write.spelling g.D.Read.reading g.S.Signature.Read.reading g.S.Certificate.Read.reading in
     let t = c.requires.3 in
@@ -35,10 +35,13 @@ tell_votes-requires g c = λ none.
     let h = t.gone.h in
     let all = whole g.S.Scheme g.L.Elector fs c.args.recorded.now c.args.self.now c.requires.0 c.requires.1 x c.requires.2 t in
     let room : HasRoom s.voter.length (artifact_round x).view = c.lawful_records_leave_room.ensures s.voter.scheme (owner_of s) (record_of h) c.requires.1 x all.lawful in
-    let told = c.in_ok-tell_voter.ensures s.voter (voter_of s h) t.gone.stand.voter room (new g.S.Scheme g.L.Elector fs c.args.recorded.now c.args.self.now c.requires.0 c.requires.1 x c.requires.2 t (c.what_is_not_recorded_is_unknown.ensures (fs t.members) s h)) in
-    none s h t.gone.stand.votes
-    (counted g.S.Scheme g.L.Elector fs c.args.recorded.now c.args.self.now c.requires.0 c.requires.1 x c.requires.2 t told.0 told.1 room
-    (λ v. c.own_votes_come_free.ensures.found (fs t.members) s h v told.0 (c.packets_are_read_back.ensures.exact t.members)))
+    let told = c.in_ok-tell_voter.ensures s.voter (voter_of s h) t.gone.stand.voter room (new g.S.Scheme g.L.Elector fs c.args.recorded.now c.args.self.now c.requires.0 c.requires.1 x c.requires.2 t (c.what_is_not_recorded_is_unknown.ensures (fs t.members) s h)) in (
+      s,
+      h,
+      t.gone.stand.votes,
+      counted g.S.Scheme g.L.Elector fs c.args.recorded.now c.args.self.now c.requires.0 c.requires.1 x c.requires.2 t told.0 told.1 room
+          (λ v. c.own_votes_come_free.ensures.found (fs t.members) s h v told.0 (c.packets_are_read_back.ensures.exact t.members)),
+    )
 
 pub tell_repair-requires : goal.tell_repair-requires
 tell_repair-requires g c =
