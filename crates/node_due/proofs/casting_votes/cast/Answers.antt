@@ -88,10 +88,14 @@ tell_own_vote-requires g c =
     let v = c.args.vote in
     let k = ahead.keeps in
     let small : g.S.Scheme.size s.voter.scheme < 2 ^ 32 = subst (λ (n : ℕ). n < 2 ^ 32) (c.participants-members.ensures.value ∙ ap g.S.Scheme.size (c.deref.ensures ∙ ahead.keeps.set_up.scheme_is)) (omega (arith, c.participants-members.type_inv)) in
-    let may_now = may (vote_recordable f _ _ (c.packets_are_read_back.ensures.recordable (g.S.Scheme.size s.voter.scheme) small) c.in-Ok.artifact c.args.vote c.in-Ok.ensures.copy c.record.ensures.readable) in
-    (s, h, k.votes, record {
-      epoch = opens.epoch;
-      room = opens.room;
-      attests = vote_attests (g.S.Scheme.attests s.voter.scheme) (g.S.Scheme.certifies s.voter.scheme) (owner_of s) v may_now.fits.verifies;
-      free = c.own_votes_come_free.ensures.made f s h v (c.packets_are_read_back.ensures.exact (g.S.Scheme.size s.voter.scheme)) (may_now, k.allowed) opens.room;
-    })
+    let may_now = may (vote_recordable f _ _ (c.packets_are_read_back.ensures.recordable (g.S.Scheme.size s.voter.scheme) small) c.in-Ok.artifact c.args.vote c.in-Ok.ensures.copy c.record.ensures.readable) in (
+      s,
+      h,
+      k.votes,
+      record {
+        epoch = opens.epoch;
+        room = opens.room;
+        attests = vote_attests (g.S.Scheme.attests s.voter.scheme) (g.S.Scheme.certifies s.voter.scheme) (owner_of s) v may_now.fits.verifies;
+        free = c.own_votes_come_free.ensures.made f s h v (c.packets_are_read_back.ensures.exact (g.S.Scheme.size s.voter.scheme)) (may_now, k.allowed) opens.room;
+      },
+    )
