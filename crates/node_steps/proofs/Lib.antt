@@ -3,3 +3,4 @@ mod Testing
 mod Whole
 mod Stepped
 mod OfRecord
+mod Led
