@@ -30,11 +30,15 @@ pub returns-in-Err-clause-settled : goal.returns-in-Err-clause-settled
 returns-in-Err-clause-settled g c = λ s h k.
     one_failed _ refl (c.acts.invariant.acts s h k) (c.in-Err.ensures.tried s)
 
-pub returns-clause-settled : goal.returns-clause-settled
-returns-clause-settled g c = λ s h k.
+-- acts end before so many rounds
+pub unreachable-requires : goal.unreachable-requires
+unreachable-requires g c =
+    let from = c.requires in
+    let s = from.0 in
+    let k = from.2 in
     let f = formats {S = g.row.S.Denot} {P = g.row.S-PublicKey.Denot} g.D.PartialEq.eq g.D.Write.spelling g.S.Signature.Write.spelling g.S.Certificate.Write.spelling g.D.Read.reading g.S.Signature.Read.reading g.S.Certificate.Read.reading (g.S.Scheme.size s.voter.scheme) in
     let some : 0 < g.S.Scheme.size s.voter.scheme = subst (λ x. 0 < g.S.Scheme.size x) (c.deref.ensures ∙ k.set_up.scheme_is) c.participants-members.ensures.some in
-    absurd (acts_ended c.acts.counter (omega (arith, c.acts-test.false)) k (c.acts.invariant.acts s h k) some (c.acts_end.ensures.anyhow f s g.met.D.Digest.equal_is_same))
+    acts_ended c.acts.counter (omega (arith, c.acts-test.false)) k (c.acts.invariant.acts s from.1 k) some (c.acts_end.ensures.anyhow f s g.met.D.Digest.equal_is_same)
 
 -- no act before has failed
 pub returns-in-Err-clause-faults : goal.returns-in-Err-clause-faults
@@ -42,9 +46,6 @@ returns-in-Err-clause-faults g c = tells_err _ _ refl refl (tells_behind c.acts.
 
 pub returns-in-Ok-Nothing-clause-faults : goal.returns-in-Ok-Nothing-clause-faults
 returns-in-Ok-Nothing-clause-faults g c = tells_behind c.acts.invariant.told (tells_behind c.in-Ok-Nothing.ensures.faults c.say_when.ensures.faults)
-
-pub returns-clause-faults : goal.returns-clause-faults
-returns-clause-faults g c = tells_behind c.acts.invariant.told c.say_when-2.ensures.faults
 
 -- a history leads to where the acts so far leave off
 pub act-requires : goal.act-requires
