@@ -41,7 +41,7 @@ use Rattle.node_core.specs.Keeps.{CoreKeeps}
 use Rattle.node_input.specs.Verdicts.{RecordIsAhead}
 
 -- a verdict is within any bound
-pub verdict_within : {S D P G C : Type 0} (W : C → Type 0) (own : Round) (ok : Bool) → artifact_within W (artifact.Certification {S} {D} {P} {G} {C} own ok)
+pub verdict_within : {S D P G C : Type 0} (W : C → Type 0) (own : Round) (ok : Bool) → artifact_within {S = S} {D = D} {P = P} {G = G} W (artifact.Certification own ok)
 unfolding artifact_within
 verdict_within W own ok = tt
 

@@ -102,7 +102,7 @@ returns-clause-faults g c = unasked g.K.Disk (book_of c.args.core.now) (book_of 
 
 -- a history that leads here decided so
 pub take_vote-requires : goal.take_vote-requires
-take_vote-requires g c = let at = c.requires in let d = rw c.in-Vote.is at at.5 in (at.0, at.1, at.2, at.3, d.2)
+take_vote-requires g c = let from = c.requires in let d = rw c.in-Vote.is at from.5 in (from.0, from.1, from.2, from.3, d.2)
 
 pub take_certificate-requires : goal.take_certificate-requires
-take_certificate-requires g c = let at = c.requires in let d = rw c.in-Certificate.is at at.5 in (at.0, at.1, at.2, at.3, d.2)
+take_certificate-requires g c = let from = c.requires in let d = rw c.in-Certificate.is at from.5 in (from.0, from.1, from.2, from.3, d.2)
