@@ -4,3 +4,5 @@ pub mod Looked
 pub mod LookedHalves
 pub mod Opens
 pub mod Places
+pub mod Sizes
+pub mod Unopened

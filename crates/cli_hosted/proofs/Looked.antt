@@ -34,6 +34,34 @@ torn_by base members owner named place cuts bytes (barred.Unclosed at) is bars b
 torn_by base members owner named place cuts bytes (barred.Behind at) is bars beyond names =
     (unasked cuts beyond, inr (subst (λ (p : ℕ). IsBarredBy base members owner bytes (barred.Behind p)) (sym names.1) bars))
 
+-- an entry that is refused or foreign is told with its place
+pub refused_by : (P : Barred → Type 0) (named place : ℕ) (why : Barred) → barred_status why ≡ status.Refused → P why → Names named place (barred_place why) → P (barred.Unlawful place)
+refused_by P named place barred.Memory is bars names = absurd cc
+refused_by P named place barred.Device is bars names = absurd cc
+refused_by P named place barred.NoRecord is bars names = absurd cc
+refused_by P named place (barred.Foreign at) is bars names = absurd cc
+refused_by P named place (barred.Unlawful at) is bars names = subst (λ (p : ℕ). P (barred.Unlawful p)) (sym names.1) bars
+refused_by P named place (barred.Unclosed at) is bars names = absurd cc
+refused_by P named place (barred.Behind at) is bars names = absurd cc
+
+pub foreign_by : (P : Barred → Type 0) (named place : ℕ) (why : Barred) → barred_status why ≡ status.Foreign → P why → Names named place (barred_place why) → P (barred.Foreign place)
+foreign_by P named place barred.Memory is bars names = absurd cc
+foreign_by P named place barred.Device is bars names = absurd cc
+foreign_by P named place barred.NoRecord is bars names = absurd cc
+foreign_by P named place (barred.Foreign at) is bars names = subst (λ (p : ℕ). P (barred.Foreign p)) (sym names.1) bars
+foreign_by P named place (barred.Unlawful at) is bars names = absurd cc
+foreign_by P named place (barred.Unclosed at) is bars names = absurd cc
+foreign_by P named place (barred.Behind at) is bars names = absurd cc
+
+pub never_device : (why : Barred) → why ≢ barred.Device → barred_status why ≢ status.Device
+never_device barred.Memory other is = absurd cc
+never_device barred.Device other is = other refl
+never_device barred.NoRecord other is = absurd cc
+never_device (barred.Foreign at) other is = absurd cc
+never_device (barred.Unlawful at) other is = absurd cc
+never_device (barred.Unclosed at) other is = absurd cc
+never_device (barred.Behind at) other is = absurd cc
+
 pub no_record_by : (base : List ℕ) (members : ℕ) (owner : Owner) (bytes : List ℕ) (why : Barred) → barred_status why ≡ status.NoRecord → IsBarredBy base members owner bytes why → ¬ BeginsLikeOne bytes
 no_record_by base members owner bytes barred.Memory is bars = absurd cc
 no_record_by base members owner bytes barred.Device is bars = absurd cc

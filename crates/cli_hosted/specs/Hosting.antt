@@ -1,8 +1,9 @@
 -- What the calls of a member's node come to that C holds.
-use Rattle.std.specs.Prelude.{◌≡◌, ℕ, List, Option, None, Some, Result, IfOk, IsErrOf, OnErr, true, ⊤}
+use Rattle.std.specs.Prelude.{◌≡◌, ◌++◌, ℕ, List, [], Option, None, Some, Result, IfOk, IsErrOf, OnErr, true, ⊤}
 use Rattle.types_codec.specs.declared.codec.CodecError.{CodecError}
 use Rattle.types_core.specs.declared.scheme.Scheme.{Ghosts}
 use Rattle.messages_certificates.specs.declared.artifact.Artifact.{Artifact}
+use Rattle.messages_certificates.specs.ProposalCertificate.{Finalization}
 use Rattle.types_terms.specs.Rotation.{Rotation}
 use Rattle.types_terms.specs.declared.elector.Elector as elector
 use Rattle.simplex_types.specs.Plain as plain
@@ -10,6 +11,7 @@ use Rattle.journal_single.specs.declared.disk.Disk as disk
 use Rattle.journal_books.specs.declared.disks.Disks.{Disks}
 use Rattle.journal_books.specs.declared.disks.Disks.TheVariants.{One, Two}
 use Rattle.journal_books.specs.Books.{Leave, are_two, may_rewrite}
+use Rattle.simplex_member.specs.declared.action.Reply.{Reply}
 use Rattle.simplex_member.specs.declared.fault.IoFault.{IoFault}
 use Rattle.simplex_member.specs.declared.fault.NodeFault.{NodeFault}
 use Rattle.simplex_member.specs.declared.fault.NodeFault.TheVariants.{Failed}
@@ -20,8 +22,9 @@ use Rattle.simplex_member.specs.Recorded.{kept_of}
 use Rattle.simplex_member.specs.Setup.{Setup, setup_of}
 use Rattle.node_record.specs.Ledger.{next_view}
 use Rattle.node_core.specs.Rewriting.{IsLeftByRewrite}
+use Rattle.node_steps.specs.declared.node.Node.{Node}
 use Rattle.node_steps.specs.Keeps.{AtAll, AtOwn, book_of, disks_of, has_failed}
-use Rattle.node_steps.specs.Opening.{IsOpenAndSettled}
+use Rattle.node_steps.specs.Opening.{IsOpenAndSettled, MayBeLeftOpen}
 use Rattle.node_steps.specs.Rewriting.{NodeIsRewritten}
 use Rattle.node_wire.specs.Streaming.{EndsIn}
 use Rattle.simplex_node.specs.Running.{LeavesPassed, RunFails, RunsTo}
@@ -40,19 +43,29 @@ AreFresh stored None (One on) = IsFresh file.First stored on
 AreFresh stored (Some other) (Two on second) = IsFresh file.First stored on × IsFresh file.Second other second
 AreFresh stored second on = ⊥
 
+module _ {S L D P G C K : Type 0} (g : Ghosts S D P G C) (e : elector.Ghosts L S D P G C) (k : disk.Ghosts K) (f : Formats S D P G C)
+    (w : Reply S D P G C → List ℕ) (Readable : Artifact S D P G C → Type 0) where
+  -- a node that is set up so was opened over these disks at moment 0: it stands behind what was found there and what the opening brings, and
+  -- what that hands out is the reply behind those that waited. What was asked of the disks meanwhile leaves, wherever it breaks off, what
+  -- an opening may leave
+  pub record IsBegunOver (brought : Option (Finalization S D P G C)) (s : Setup S D C) (on : Disks K) (node : Node S L D K P G C)
+      (old new : List ℕ) : Type 0 where
+    pub first : Reply S D P G C
+    pub refused : first.refused ≡ None
+    pub replied : new ≡ old ++ w first
+    pub opens : IsOpenAndSettled g e k f s Readable brought on 0 node first.actions.items
+    pub any_moment : k.keeps → Leave k on (disks_of node) (MayBeLeftOpen g e k f s Readable brought on 0)
+    pub as_many : are_two (disks_of node) ≡ are_two on
+
 module _ (g : Ghosts plain.Committee (List ℕ) ℕ (List ℕ) Listed) (e : elector.Ghosts Rotation plain.Committee (List ℕ) ℕ (List ℕ) Listed) (k : disk.Ghosts HostedState)
     (formats : ℕ → Formats plain.Committee (List ℕ) ℕ (List ℕ) Listed) (w : PlainReply → List ℕ) where
-  -- a node that is set up so was opened at moment 0 over these bytes: it stands behind what was found there, and what that hands out
-  -- is the one reply that waits
+  -- a node that is set up so was opened at moment 0 over these bytes: it stands behind what was found there, what that hands out is the one
+  -- reply that waits, and what was asked of the disks leaves, wherever it breaks off, what an opening may leave
   pub record IsBegun (Readable : Artifact plain.Committee (List ℕ) ℕ (List ℕ) Listed → Type 0) (s : Setup plain.Committee (List ℕ) Listed)
       (stored : List ℕ) (second : Option (List ℕ)) (state : Session) : Type 0 where
     pub on : Disks HostedState
     pub fresh : AreFresh stored second on
-    pub first : PlainReply
-    pub refused : first.refused ≡ None
-    pub replied : replies_of state ≡ w first
-    pub opens : IsOpenAndSettled g e k (formats (g.size s.voter.scheme)) s Readable None on 0 (node_of state) first.actions.items
-    pub as_many : are_two (disks_of (node_of state)) ≡ are_two on
+    pub begun : IsBegunOver g e k (formats (g.size s.voter.scheme)) w Readable None s on (node_of state) [] (replies_of state)
 
   module _ (Readable : Artifact plain.Committee (List ℕ) ℕ (List ℕ) Listed → Type 0) where
     -- the same of the member of these settings

@@ -4,10 +4,12 @@ ghost use Rattle.std.specs.Prelude.{◌≡◌, ◌≢◌, ◌<◌, ◌≤◌, �
 ghost use Rattle.std.specs.Option.{option_copied};
 ghost use Rattle.journal_look.specs.Look.{BeginsLikeOne};
 ghost use Rattle.cli_settings.specs.Checking.{IsGood};
-ghost use Rattle.cli_opening.specs.Looking.{IsBeyondCut};
+ghost use Rattle.cli_opening.specs.Looking.{IsBarred, IsBeyondCut};
 ghost use Rattle.cli_opening.specs.Members.{IsBarredFor, IsFoundFor};
+ghost use Rattle.cli_opening.specs.declared.looking.Barred.TheVariants as barred;
 ghost use Rattle.simplex_member.specs.declared.fault.IoFault.{IoFault as Ending};
 ghost use Rattle.simplex_member.specs.declared.fault.NodeFault.{NodeFault as Failure};
+ghost use Rattle.simplex_member.specs.declared.fault.OpenFault.TheVariants as open_fault;
 ghost use Rattle.cli_hosted.specs.Held.{held_by};
 ghost use Rattle.cli_hosted.specs.Sessions.{node_of, replies_of};
 ghost use Rattle.cli_hosted.specs.declared.session.Session.{Session as Kept};
@@ -32,7 +34,7 @@ use std::alloc::Global;
 
 /// Opens a member's node over its record, where none is open yet and these bytes are one as a crash may leave it. Where `cuts`, its last
 /// gate and what stands behind it may be anything.
-#[tactic(auto, using(crate::proofs::Looked::named_by, crate::proofs::Looked::never_done, crate::proofs::Looked::no_record_by, crate::proofs::Looked::torn_by, crate::proofs::Looked::unnamed_by))]
+#[tactic(auto, using(crate::proofs::Looked::named_by, crate::proofs::Looked::never_device, crate::proofs::Looked::never_done, crate::proofs::Looked::no_record_by, crate::proofs::Looked::torn_by, crate::proofs::Looked::unnamed_by))]
 pub fn opened(
     alloc: Global,
     members: u16,
@@ -48,6 +50,9 @@ pub fn opened(
     ensures opened { result ≡ Done → node.new.live ≡ 1 }
     ensures unopened { result ≢ Done → node.new ≡ node.old }
     ensures looked { result ≡ Done → IsLookedAt member members cuts stored.now }
+    ensures refused { result ≡ Refused → IsBarred member members stored.now (barred.Unlawful found.new.place) }
+    ensures foreign { result ≡ Foreign → IsBarred member members stored.now (barred.Foreign found.new.place) }
+    ensures device { result ≡ Device → IsLookedAt member members cuts stored.now }
     ensures torn { result ≡ Torn → (cuts ≡ false) × IsTornAt member members stored.now found.new.place }
     ensures no_record { result ≡ NoRecord → ¬ BeginsLikeOne stored.now }
     ensures named { (result ≡ Refused) ⊎ ((result ≡ Foreign) ⊎ (result ≡ Torn)) → found.new.named ≡ 1 }
@@ -65,7 +70,7 @@ pub fn opened(
 }
 
 /// The same of a member that is set up by these settings.
-#[tactic(auto, using(crate::proofs::Looked::named_by, crate::proofs::Looked::never_done, crate::proofs::Looked::no_record_by, crate::proofs::Looked::torn_by, crate::proofs::Looked::unnamed_by))]
+#[tactic(auto, using(crate::proofs::Looked::named_by, crate::proofs::Looked::never_device, crate::proofs::Looked::never_done, crate::proofs::Looked::no_record_by, crate::proofs::Looked::torn_by, crate::proofs::Looked::unnamed_by))]
 pub fn opened_by(
     alloc: Global,
     settings: &Settings,
@@ -80,6 +85,9 @@ pub fn opened_by(
     ensures opened { result ≡ Done → node.new.live ≡ 1 }
     ensures unopened { result ≢ Done → node.new ≡ node.old }
     ensures looked { result ≡ Done → IsLookedAtBy settings.now cuts stored.now }
+    ensures refused { result ≡ Refused → IsBarredFor settings.now stored.now (barred.Unlawful found.new.place) }
+    ensures foreign { result ≡ Foreign → IsBarredFor settings.now stored.now (barred.Foreign found.new.place) }
+    ensures device { result ≡ Device → IsLookedAtBy settings.now cuts stored.now }
     ensures torn { result ≡ Torn → (cuts ≡ false) × IsTornBy settings.now stored.now found.new.place }
     ensures no_record { result ≡ NoRecord → ¬ BeginsLikeOne stored.now }
     ensures named { (result ≡ Refused) ⊎ ((result ≡ Foreign) ⊎ (result ≡ Torn)) → found.new.named ≡ 1 }
@@ -95,7 +103,7 @@ pub fn opened_by(
 /// Opens a member's node over its record in two files, where none is open yet and the bytes of each are of one as a crash may leave it.
 /// The record is that of the greater generation, of one file beside an empty one as well. Where `cuts`, the last gate of each and what
 /// stands behind it may be anything.
-#[tactic(auto, using(crate::proofs::Looked::named_by, crate::proofs::Looked::never_done, crate::proofs::Looked::unnamed_by, crate::proofs::LookedHalves::half_torn_by, crate::proofs::LookedHalves::no_half_by))]
+#[tactic(auto, using(crate::proofs::Looked::named_by, crate::proofs::Looked::never_device, crate::proofs::Looked::never_done, crate::proofs::Looked::unnamed_by, crate::proofs::LookedHalves::half_torn_by, crate::proofs::LookedHalves::no_half_by))]
 pub fn opened_pair(
     alloc: Global,
     members: u16,
@@ -112,6 +120,9 @@ pub fn opened_pair(
     ensures opened { result ≡ Done → node.new.live ≡ 1 }
     ensures unopened { result ≢ Done → node.new ≡ node.old }
     ensures looked { result ≡ Done → AreLookedAt member members cuts stored.now second.now }
+    ensures refused { result ≡ Refused → AreBarredAt member members stored.now second.now (barred.Unlawful found.new.place) }
+    ensures foreign { result ≡ Foreign → AreBarredAt member members stored.now second.now (barred.Foreign found.new.place) }
+    ensures device { result ≡ Device → AreLookedAt member members cuts stored.now second.now }
     ensures torn { result ≡ Torn → (cuts ≡ false) × AreTornAt member members stored.now second.now found.new.place }
     ensures no_record { result ≡ NoRecord → BeginsAsNone stored.now ⊎ BeginsAsNone second.now }
     ensures named { (result ≡ Refused) ⊎ ((result ≡ Foreign) ⊎ (result ≡ Torn)) → found.new.named ≡ 1 }
@@ -128,7 +139,7 @@ pub fn opened_pair(
 }
 
 /// The same of a member that is set up by these settings.
-#[tactic(auto, using(crate::proofs::Looked::named_by, crate::proofs::Looked::never_done, crate::proofs::Looked::unnamed_by, crate::proofs::LookedHalves::half_torn_by, crate::proofs::LookedHalves::no_half_by))]
+#[tactic(auto, using(crate::proofs::Looked::named_by, crate::proofs::Looked::never_device, crate::proofs::Looked::never_done, crate::proofs::Looked::unnamed_by, crate::proofs::LookedHalves::half_torn_by, crate::proofs::LookedHalves::no_half_by))]
 pub fn opened_pair_by(
     alloc: Global,
     settings: &Settings,
@@ -144,6 +155,9 @@ pub fn opened_pair_by(
     ensures opened { result ≡ Done → node.new.live ≡ 1 }
     ensures unopened { result ≢ Done → node.new ≡ node.old }
     ensures looked { result ≡ Done → AreLookedAtBy settings.now cuts stored.now second.now }
+    ensures refused { result ≡ Refused → AreBarredBy settings.now stored.now second.now (barred.Unlawful found.new.place) }
+    ensures foreign { result ≡ Foreign → AreBarredBy settings.now stored.now second.now (barred.Foreign found.new.place) }
+    ensures device { result ≡ Device → AreLookedAtBy settings.now cuts stored.now second.now }
     ensures torn { result ≡ Torn → (cuts ≡ false) × AreTornBy settings.now stored.now second.now found.new.place }
     ensures no_record { result ≡ NoRecord → BeginsAsNone stored.now ⊎ BeginsAsNone second.now }
     ensures named { (result ≡ Refused) ⊎ ((result ≡ Foreign) ⊎ (result ≡ Torn)) → found.new.named ≡ 1 }
@@ -173,6 +187,7 @@ fn look_at_both(
     ensures found { OnOk result (AreLookedAt member members cuts stored.now second.now) }
     ensures barred { IfErr result (AreBarredAt member members stored.now second.now) }
     ensures cut { IfErr result (λ why. cuts ≡ true → IsBeyondCut why) }
+    ensures not_device { IfErr result (λ why. why ≢ barred.Device) }
 {
     look_at_half(alloc, stored, member, members, cuts)?;
     look_at_half(alloc, second, member, members, cuts)?;
@@ -191,6 +206,7 @@ fn look_at_both_by(
     ensures found { OnOk result (AreLookedAtBy settings.now cuts stored.now second.now) }
     ensures barred { IfErr result (AreBarredBy settings.now stored.now second.now) }
     ensures cut { IfErr result (λ why. cuts ≡ true → IsBeyondCut why) }
+    ensures not_device { IfErr result (λ why. why ≢ barred.Device) }
 {
     let Ok(scheme) = settings.committee.scheme(alloc, None) else {
         return Err(Barred::Memory);
@@ -206,6 +222,7 @@ fn look_by(alloc: Global, settings: &Settings, cuts: bool, stored: &[u8]) -> Res
     ensures found { IfOk result (IsFoundFor settings.now cuts stored.now) }
     ensures barred { IfErr result (IsBarredFor settings.now stored.now) }
     ensures cut { IfErr result (λ why. cuts ≡ true → IsBeyondCut why) }
+    ensures not_device { IfErr result (λ why. why ≢ barred.Device) }
 {
     match settings.committee.scheme(alloc, None) {
         Ok(scheme) => look_at_by(alloc, stored, &scheme, owner_by(settings), cuts),
@@ -217,6 +234,8 @@ fn look_by(alloc: Global, settings: &Settings, cuts: bool, stored: &[u8]) -> Res
 fn begun(opening: Result<Box<Session>, OpenFault>, node: &mut Handle, found: &mut Found) -> Status
     ensures held { IfOk opening (λ session. held_by node.new ≡ Some session.value) }
     ensures not_held { IfErr opening (λ _. result ≢ Done) }
+    ensures refused { result ≡ Refused → opening ≡ Err (open_fault.Contradiction found.new.place) }
+    ensures foreign { result ≡ Foreign → opening ≡ Err (open_fault.Foreign found.new.place) }
     ensures opened { result ≡ Done → node.new.live ≡ 1 }
     ensures unopened { result ≢ Done → node.new ≡ node.old }
     ensures bound { status_number result ≤ 10 }

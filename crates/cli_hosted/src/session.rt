@@ -1,24 +1,25 @@
 //! A member's node between two calls.
 
-ghost use Rattle.std.specs.Prelude.{◌≡◌, ◌<◌, ◌≤◌, ◌++◌, ◌⊎◌, ℕ, [], Err, IfOk, IsErrOf, None, Ok, OnErr, OnOk, Some, false, length, true};
+ghost use Rattle.std.specs.Prelude.{◌≡◌, ◌<◌, ◌≤◌, ◌++◌, ◌⊎◌, ℕ, [], Err, IfErr, IfOk, IsErrOf, None, Ok, OnErr, OnOk, Some, false, length, true};
 ghost use Rattle.std.specs.Option.{option_copied};
 ghost use Rattle.cli_calls.specs.Told.{AreTaken, WaitOn};
 ghost use Rattle.cli_settings.specs.Building.{config_of};
 ghost use Rattle.cli_settings.specs.Checking.{IsGood};
 ghost use Rattle.cli_disk.specs.HostedDisk.{IsFresh};
 ghost use Rattle.cli_opening.specs.Members.{AreLeaders, committee_of};
-ghost use Rattle.cli_hosted.specs.Hosting.{AreFresh};
-ghost use Rattle.cli_hosted.specs.Sessions.{PlainReply};
-ghost use Rattle.journal_books.specs.Books.{Leave, are_two, may_rewrite};
-ghost use Rattle.simplex_member.specs.declared.action.Reply.{Reply};
+ghost use Rattle.cli_hosted.specs.Hosting.{AreFresh, IsBegunOver};
+ghost use Rattle.cli_hosted.specs.Pairs.{IsUnopenedAt, IsUnopenedBy};
+ghost use Rattle.journal_books.specs.declared.disks.Disks.{Disks};
+ghost use Rattle.journal_books.specs.Books.{Leave, may_rewrite};
 ghost use Rattle.simplex_member.specs.declared.fault.NodeFault.TheVariants.{Failed};
+ghost use Rattle.simplex_member.specs.declared.fault.OpenFault.TheVariants as open_fault;
 ghost use Rattle.simplex_member.specs.Member.{NoneDue};
 ghost use Rattle.simplex_member.specs.Recorded.{kept_of};
 ghost use Rattle.simplex_member.specs.Setup.{brought_by, setup_of};
 ghost use Rattle.node_core.specs.Rewriting.{IsLeftByRewrite};
 ghost use Rattle.node_record.specs.Ledger.{next_view};
 ghost use Rattle.node_steps.specs.Keeps.{AtOwn, book_of, disks_of, has_failed};
-ghost use Rattle.node_steps.specs.Opening.{IsOpenAndSettled};
+ghost use Rattle.node_steps.specs.Opening.{IsUnopened};
 ghost use Rattle.node_steps.specs.Rewriting.{NodeIsRewritten};
 ghost use Rattle.simplex_cli.specs.Settings.{program_committee, program_config, program_rotation};
 ghost use Rattle.simplex_node.specs.Running.{LeavesPassed, RunFails, RunsTo};
@@ -34,7 +35,7 @@ use journal_single::Disk;
 use node_steps::Node;
 use node_wire::CountedWriter;
 use simplex_cli::{config, elector, scheme};
-use simplex_member::{IoFault, NodeFault, OpenFault, Reply, Speaks};
+use simplex_member::{IoFault, NodeFault, OpenFault, Speaks};
 use simplex_node::{open_disks_io, run_io};
 use simplex_types::{AttestationList, PlainKey, PlainScheme, PlainSignature};
 use std::alloc::{AllocError, Global};
@@ -79,7 +80,8 @@ impl Session {
         second: Option<&[u8]>,
     ) -> Result<Box<Session>, OpenFault>
         requires { member < members }
-        ensures { IfOk result (λ it. ⟦<Promised as Promises>⟧.begun_as member members stored.now (option_copied second.entry) it.value) }
+        ensures begun { IfOk result (λ it. ⟦<Promised as Promises>⟧.begun_as member members stored.now (option_copied second.entry) it.value) }
+        ensures unopened { IfErr result (IsUnopenedAt member members stored.now (option_copied second.entry)) }
     {
         let Ok((disks, requests)) = hosted(alloc, stored, second) else {
             return Err(OpenFault::Memory);
@@ -97,7 +99,8 @@ impl Session {
         second: Option<&[u8]>,
     ) -> Result<Box<Session>, OpenFault>
         requires { IsGood settings.now }
-        ensures { IfOk result (λ it. ⟦<Promised as Promises>⟧.begun_by settings.now stored.now (option_copied second.entry) it.value) }
+        ensures begun { IfOk result (λ it. ⟦<Promised as Promises>⟧.begun_by settings.now stored.now (option_copied second.entry) it.value) }
+        ensures unopened { IfErr result (IsUnopenedBy settings.now stored.now (option_copied second.entry)) }
     {
         let Ok((disks, requests)) = hosted(alloc, stored, second) else {
             return Err(OpenFault::Memory);
@@ -194,7 +197,8 @@ fn held(
     requests: Requests,
     replies: Vec<u8>,
 ) -> Result<Box<Session>, OpenFault>
-    ensures { IfOk result (λ it. (node ≡ Ok it.value.node) × (it.value.replies.items ≡ replies.items)) }
+    ensures held { IfOk result (λ it. (node ≡ Ok it.value.node) × (it.value.replies.items ≡ replies.items)) }
+    ensures not_held { IfErr result (λ why. (why ≡ open_fault.Memory) ⊎ (node ≡ Err why)) }
 {
     match node {
         Ok(node) => boxed(
@@ -218,16 +222,20 @@ fn set_up<K: Disk>(
     replies: &mut Vec<u8>,
 ) -> Result<Node<PlainScheme, RoundRobinElector, Sha256Digest, K>, OpenFault>
     requires { member < members }
-    ensures opened { IfOk result (λ node.
-        (first : PlainReply) × (first.refused ≡ None) ×
-        (replies.new.items ≡ replies.old.items ++ spelled ⟦<PlainKey as Write>⟧.spelling ⟦<Sha256Digest as Write>⟧.spelling
-        ⟦<PlainSignature as Write>⟧.spelling ⟦<AttestationList<PlainSignature> as Write>⟧.spelling first) ×
-        IsOpenAndSettled ⟦<PlainScheme as Scheme<Sha256Digest>>⟧ ⟦<RoundRobinElector as Elector<PlainScheme, Sha256Digest>>⟧ K.Disk
+    ensures begun { IfOk result (λ node.
+        IsBegunOver ⟦<PlainScheme as Scheme<Sha256Digest>>⟧ ⟦<RoundRobinElector as Elector<PlainScheme, Sha256Digest>>⟧ K.Disk
         (⟦<PlainScheme as Speaks<Sha256Digest>>⟧.formats members)
+        (spelled ⟦<PlainKey as Write>⟧.spelling ⟦<Sha256Digest as Write>⟧.spelling ⟦<PlainSignature as Write>⟧.spelling
+        ⟦<AttestationList<PlainSignature> as Write>⟧.spelling) ⟦<PlainScheme as Speaks<Sha256Digest>>⟧.readable None
         (setup_of ⟦<PlainScheme as Scheme<Sha256Digest>>⟧ ⟦<RoundRobinElector as Elector<PlainScheme, Sha256Digest>>⟧
-        program_config (program_committee member members) (program_rotation members) member)
-        ⟦<PlainScheme as Speaks<Sha256Digest>>⟧.readable None disks 0 node first.actions.items) }
-    ensures as_many { IfOk result (λ node. are_two (disks_of node) ≡ are_two disks) }
+        program_config (program_committee member members) (program_rotation members) member) disks node replies.old.items replies.new.items) }
+    ensures unopened { IfErr result (λ why.
+        (why ≡ open_fault.Memory)
+        ⊎ ((back : Disks K) × IsUnopened ⟦<PlainScheme as Scheme<Sha256Digest>>⟧
+        ⟦<RoundRobinElector as Elector<PlainScheme, Sha256Digest>>⟧ K.Disk (⟦<PlainScheme as Speaks<Sha256Digest>>⟧.formats members)
+        (setup_of ⟦<PlainScheme as Scheme<Sha256Digest>>⟧ ⟦<RoundRobinElector as Elector<PlainScheme, Sha256Digest>>⟧
+        program_config (program_committee member members) (program_rotation members)) ⟦<PlainScheme as Speaks<Sha256Digest>>⟧.readable
+        program_config (program_committee member members) disks 0 why back)) }
 {
     let Ok(scheme) = scheme(alloc, member, members) else {
         return Err(OpenFault::Memory);
@@ -246,16 +254,22 @@ fn set_up_by<K: Disk>(
     replies: &mut Vec<u8>,
 ) -> Result<Node<PlainScheme, RoundRobinElector, Sha256Digest, K>, OpenFault>
     requires { IsGood settings.now }
-    ensures opened { IfOk result (λ node.
-        (leaders : Rotation) × (first : PlainReply) × AreLeaders settings.now.committee leaders × (first.refused ≡ None) ×
-        (replies.new.items ≡ replies.old.items ++ spelled ⟦<PlainKey as Write>⟧.spelling ⟦<Sha256Digest as Write>⟧.spelling
-        ⟦<PlainSignature as Write>⟧.spelling ⟦<AttestationList<PlainSignature> as Write>⟧.spelling first) ×
-        IsOpenAndSettled ⟦<PlainScheme as Scheme<Sha256Digest>>⟧ ⟦<RoundRobinElector as Elector<PlainScheme, Sha256Digest>>⟧ K.Disk
+    ensures begun { IfOk result (λ node.
+        (leaders : Rotation) × AreLeaders settings.now.committee leaders
+        × IsBegunOver ⟦<PlainScheme as Scheme<Sha256Digest>>⟧ ⟦<RoundRobinElector as Elector<PlainScheme, Sha256Digest>>⟧ K.Disk
+        (⟦<PlainScheme as Speaks<Sha256Digest>>⟧.formats settings.now.committee.members)
+        (spelled ⟦<PlainKey as Write>⟧.spelling ⟦<Sha256Digest as Write>⟧.spelling ⟦<PlainSignature as Write>⟧.spelling
+        ⟦<AttestationList<PlainSignature> as Write>⟧.spelling) ⟦<PlainScheme as Speaks<Sha256Digest>>⟧.readable None
+        (setup_of ⟦<PlainScheme as Scheme<Sha256Digest>>⟧ ⟦<RoundRobinElector as Elector<PlainScheme, Sha256Digest>>⟧
+        (config_of settings.now) (committee_of settings.now) leaders settings.now.member) disks node replies.old.items replies.new.items) }
+    ensures unopened { IfErr result (λ why.
+        (why ≡ open_fault.Memory)
+        ⊎ ((leaders : Rotation) × (back : Disks K) × AreLeaders settings.now.committee leaders
+        × IsUnopened ⟦<PlainScheme as Scheme<Sha256Digest>>⟧ ⟦<RoundRobinElector as Elector<PlainScheme, Sha256Digest>>⟧ K.Disk
         (⟦<PlainScheme as Speaks<Sha256Digest>>⟧.formats settings.now.committee.members)
         (setup_of ⟦<PlainScheme as Scheme<Sha256Digest>>⟧ ⟦<RoundRobinElector as Elector<PlainScheme, Sha256Digest>>⟧
-        (config_of settings.now) (committee_of settings.now) leaders settings.now.member)
-        ⟦<PlainScheme as Speaks<Sha256Digest>>⟧.readable None disks 0 node first.actions.items) }
-    ensures as_many { IfOk result (λ node. are_two (disks_of node) ≡ are_two disks) }
+        (config_of settings.now) (committee_of settings.now) leaders) ⟦<PlainScheme as Speaks<Sha256Digest>>⟧.readable
+        (config_of settings.now) (committee_of settings.now) disks 0 why back)) }
 {
     let Ok(scheme) = settings.scheme(alloc) else {
         return Err(OpenFault::Memory);
@@ -276,14 +290,15 @@ fn begin<S: Scheme<D> + Drop, L: Elector<S, D>, D: Digest, K: Disk>(
     replies: &mut Vec<u8>,
 ) -> Result<Node<S, L, D, K>, OpenFault>
     requires { L.built_for elector (S.size scheme.value) }
-    ensures opened { IfOk result (λ node.
-        (index : ℕ) × (first : Reply S D S.PublicKey S.Signature S.Certificate) × (S.own scheme.value ≡ Some index) × (first.refused ≡ None)
-        ×
-        (replies.new.items ≡ replies.old.items ++ spelled S.PublicKey.spelling D.spelling S.Signature.spelling S.Certificate.spelling first)
-        × IsOpenAndSettled S.Scheme L.Elector K.Disk (⟦<S as Speaks<D>>⟧.formats (S.size scheme.value))
-        (setup_of S.Scheme L.Elector config scheme.value elector index) ⟦<S as Speaks<D>>⟧.readable (brought_by config.floor) disks 0 node
-        first.actions.items) }
-    ensures as_many { IfOk result (λ node. are_two (disks_of node) ≡ are_two disks) }
+    ensures begun { IfOk result (λ node.
+        (index : ℕ) × (S.own scheme.value ≡ Some index)
+        × IsBegunOver S.Scheme L.Elector K.Disk (⟦<S as Speaks<D>>⟧.formats (S.size scheme.value))
+        (spelled S.PublicKey.spelling D.spelling S.Signature.spelling S.Certificate.spelling) ⟦<S as Speaks<D>>⟧.readable
+        (brought_by config.floor) (setup_of S.Scheme L.Elector config scheme.value elector index) disks node replies.old.items
+        replies.new.items) }
+    ensures unopened { IfErr result (λ why.
+        (back : Disks K) × IsUnopened S.Scheme L.Elector K.Disk (⟦<S as Speaks<D>>⟧.formats (S.size scheme.value))
+        (setup_of S.Scheme L.Elector config scheme.value elector) ⟦<S as Speaks<D>>⟧.readable config scheme.value disks 0 why back) }
 {
     let mut output = CountedWriter::new(mem::replace(replies, Vec::new(alloc)));
     let opened = open_disks_io(alloc, config, scheme, elector, disks, 0, &mut output);
@@ -296,7 +311,7 @@ fn begin<S: Scheme<D> + Drop, L: Elector<S, D>, D: Digest, K: Disk>(
                 Err(OpenFault::Memory)
             }
         },
-        Err((fault, _)) => Err(fault),
+        Err((fault, _back)) => Err(fault),
     }
 }
 

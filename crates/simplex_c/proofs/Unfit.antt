@@ -102,6 +102,24 @@ pub unfit_by : (n : SettingsNumbers) (base seed : List ℕ) (s : Settings) → H
     → IsUnfit n base seed why
 unfit_by n base seed s form says f first why is = subst (λ (w : Unfit). IsUnfit n base seed w) (sym is) (form, (s, f, says, first, refl))
 
+pub never_refused : (why : Unfit) → unfit_status why ≢ status.Refused
+never_refused unfit.Memory is = absurd cc
+never_refused unfit.Form is = absurd cc
+never_refused unfit.Number is = absurd cc
+never_refused (unfit.Fault f) is = absurd cc
+
+pub never_foreign : (why : Unfit) → unfit_status why ≢ status.Foreign
+never_foreign unfit.Memory is = absurd cc
+never_foreign unfit.Form is = absurd cc
+never_foreign unfit.Number is = absurd cc
+never_foreign (unfit.Fault f) is = absurd cc
+
+pub never_device : (why : Unfit) → unfit_status why ≢ status.Device
+never_device unfit.Memory is = absurd cc
+never_device unfit.Form is = absurd cc
+never_device unfit.Number is = absurd cc
+never_device (unfit.Fault f) is = absurd cc
+
 pub never_torn : (why : Unfit) → unfit_status why ≢ status.Torn
 never_torn unfit.Memory is = absurd cc
 never_torn unfit.Form is = absurd cc

@@ -4,8 +4,10 @@ ghost use Rattle.std.specs.Prelude.{◌≡◌, ◌≢◌, ◌⊎◌, ◌<◌, �
 ghost use Rattle.journal_look.specs.Look.{BeginsLikeOne};
 ghost use Rattle.simplex_member.specs.declared.fault.IoFault.{IoFault};
 ghost use Rattle.simplex_member.specs.declared.fault.NodeFault.{NodeFault};
+ghost use Rattle.cli_opening.specs.Looking.{IsBarred};
+ghost use Rattle.cli_opening.specs.declared.looking.Barred.TheVariants as barred;
 ghost use Rattle.cli_hosted.specs.Held.{held_by};
-ghost use Rattle.cli_hosted.specs.Pairs.{AreLookedAt, AreTornAt, BeginsAsNone};
+ghost use Rattle.cli_hosted.specs.Pairs.{AreBarredAt, AreLookedAt, AreTornAt, BeginsAsNone};
 ghost use Rattle.cli_hosted.specs.Serving.{IsLookedAt, IsTornAt, asks, rewrite_place, rewrite_status, run_place, run_status};
 ghost use Rattle.cli_hosted.specs.Sessions.{node_of, replies_of};
 ghost use Rattle.cli_calls.specs.Told.{AreTaken, IsPut, Names, WaitOn};
@@ -41,6 +43,9 @@ pub extern "C" fn voumlis_proved_node_open(
     ensures opened { result ≡ 0 → node.new.live ≡ 1 }
     ensures unopened { result ≢ 0 → node.new ≡ node.old }
     ensures looked { result ≡ 0 → IsLookedAt member members (asks cuts) stored.now }
+    ensures refused { result ≡ 7 → IsBarred member members stored.now (barred.Unlawful found.new.place) }
+    ensures foreign { result ≡ 8 → IsBarred member members stored.now (barred.Foreign found.new.place) }
+    ensures device { result ≡ 9 → IsLookedAt member members (asks cuts) stored.now }
     ensures torn { result ≡ 11 → (cuts ≡ 0) × IsTornAt member members stored.now found.new.place }
     ensures no_record { result ≡ 12 → ¬ BeginsLikeOne stored.now }
     ensures named { (result ≡ 7) ⊎ ((result ≡ 8) ⊎ (result ≡ 11)) → found.new.named ≡ 1 }
@@ -80,6 +85,9 @@ pub extern "C" fn voumlis_proved_node_open_pair(
     ensures opened { result ≡ 0 → node.new.live ≡ 1 }
     ensures unopened { result ≢ 0 → node.new ≡ node.old }
     ensures looked { result ≡ 0 → AreLookedAt member members (asks cuts) stored.now second.now }
+    ensures refused { result ≡ 7 → AreBarredAt member members stored.now second.now (barred.Unlawful found.new.place) }
+    ensures foreign { result ≡ 8 → AreBarredAt member members stored.now second.now (barred.Foreign found.new.place) }
+    ensures device { result ≡ 9 → AreLookedAt member members (asks cuts) stored.now second.now }
     ensures torn { result ≡ 11 → (cuts ≡ 0) × AreTornAt member members stored.now second.now found.new.place }
     ensures no_record { result ≡ 12 → BeginsAsNone stored.now ⊎ BeginsAsNone second.now }
     ensures named { (result ≡ 7) ⊎ ((result ≡ 8) ⊎ (result ≡ 11)) → found.new.named ≡ 1 }

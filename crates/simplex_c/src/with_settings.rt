@@ -3,8 +3,10 @@
 ghost use Rattle.std.specs.Prelude.{◌≡◌, ◌≢◌, ◌⊎◌, ◌≤◌, None, Some, false};
 ghost use Rattle.journal_look.specs.Look.{BeginsLikeOne};
 ghost use Rattle.cli_settings.specs.declared.setting.Settings.{Settings as Setting};
+ghost use Rattle.cli_opening.specs.Members.{IsBarredFor};
+ghost use Rattle.cli_opening.specs.declared.looking.Barred.TheVariants as barred;
 ghost use Rattle.cli_hosted.specs.Held.{held_by};
-ghost use Rattle.cli_hosted.specs.Pairs.{AreLookedAtBy, AreTornBy, BeginsAsNone};
+ghost use Rattle.cli_hosted.specs.Pairs.{AreBarredBy, AreLookedAtBy, AreTornBy, BeginsAsNone};
 ghost use Rattle.cli_hosted.specs.Serving.{IsLookedAtBy, IsTornBy, asks};
 ghost use Rattle.cli_hosted.specs.Statuses.{status_number};
 ghost use Rattle.cli_hosted.specs.declared.session.Session.{Session as Kept};
@@ -59,6 +61,11 @@ fn opened(
     ensures opened { result ≡ Done → node.new.live ≡ 1 }
     ensures unopened { result ≢ Done → node.new ≡ node.old }
     ensures looked { result ≡ Done → (s : Setting) × SaysGood numbers.now base.now seed.now s × IsLookedAtBy s cuts stored.now }
+    ensures refused { result ≡ Refused
+        → (s : Setting) × SaysGood numbers.now base.now seed.now s × IsBarredFor s stored.now (barred.Unlawful found.new.place) }
+    ensures foreign { result ≡ Foreign
+        → (s : Setting) × SaysGood numbers.now base.now seed.now s × IsBarredFor s stored.now (barred.Foreign found.new.place) }
+    ensures device { result ≡ Device → (s : Setting) × SaysGood numbers.now base.now seed.now s × IsLookedAtBy s cuts stored.now }
     ensures fault { result ≡ Faulty → HasFault numbers.now base.now seed.now found.new.place }
     ensures form { result ≡ Version → ¬ HasForm numbers.now }
     ensures torn { result ≡ Torn
@@ -93,6 +100,11 @@ fn opened_both(
     ensures opened { result ≡ Done → node.new.live ≡ 1 }
     ensures unopened { result ≢ Done → node.new ≡ node.old }
     ensures looked { result ≡ Done → (s : Setting) × SaysGood numbers.now base.now seed.now s × AreLookedAtBy s cuts stored.now second.now }
+    ensures refused { result ≡ Refused
+        → (s : Setting) × SaysGood numbers.now base.now seed.now s × AreBarredBy s stored.now second.now (barred.Unlawful found.new.place) }
+    ensures foreign { result ≡ Foreign
+        → (s : Setting) × SaysGood numbers.now base.now seed.now s × AreBarredBy s stored.now second.now (barred.Foreign found.new.place) }
+    ensures device { result ≡ Device → (s : Setting) × SaysGood numbers.now base.now seed.now s × AreLookedAtBy s cuts stored.now second.now }
     ensures fault { result ≡ Faulty → HasFault numbers.now base.now seed.now found.new.place }
     ensures form { result ≡ Version → ¬ HasForm numbers.now }
     ensures torn { result ≡ Torn
@@ -154,6 +166,12 @@ pub extern "C" fn voumlis_proved_node_open_with(
     ensures unopened { result ≢ 0 → node.new ≡ node.old }
     ensures looked { result ≡ 0
         → (s : Setting) × SaysGood numbers.now base.now seed.now s × IsLookedAtBy s (asks cuts) stored.now }
+    ensures refused { result ≡ 7
+        → (s : Setting) × SaysGood numbers.now base.now seed.now s × IsBarredFor s stored.now (barred.Unlawful found.new.place) }
+    ensures foreign { result ≡ 8
+        → (s : Setting) × SaysGood numbers.now base.now seed.now s × IsBarredFor s stored.now (barred.Foreign found.new.place) }
+    ensures device { result ≡ 9
+        → (s : Setting) × SaysGood numbers.now base.now seed.now s × IsLookedAtBy s (asks cuts) stored.now }
     ensures fault { result ≡ 13 → HasFault numbers.now base.now seed.now found.new.place }
     ensures form { result ≡ 14 → ¬ HasForm numbers.now }
     ensures torn { result ≡ 11
@@ -192,6 +210,12 @@ pub extern "C" fn voumlis_proved_node_open_pair_with(
     ensures opened { result ≡ 0 → node.new.live ≡ 1 }
     ensures unopened { result ≢ 0 → node.new ≡ node.old }
     ensures looked { result ≡ 0
+        → (s : Setting) × SaysGood numbers.now base.now seed.now s × AreLookedAtBy s (asks cuts) stored.now second.now }
+    ensures refused { result ≡ 7
+        → (s : Setting) × SaysGood numbers.now base.now seed.now s × AreBarredBy s stored.now second.now (barred.Unlawful found.new.place) }
+    ensures foreign { result ≡ 8
+        → (s : Setting) × SaysGood numbers.now base.now seed.now s × AreBarredBy s stored.now second.now (barred.Foreign found.new.place) }
+    ensures device { result ≡ 9
         → (s : Setting) × SaysGood numbers.now base.now seed.now s × AreLookedAtBy s (asks cuts) stored.now second.now }
     ensures fault { result ≡ 13 → HasFault numbers.now base.now seed.now found.new.place }
     ensures form { result ≡ 14 → ¬ HasForm numbers.now }

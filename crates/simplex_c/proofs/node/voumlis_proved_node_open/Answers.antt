@@ -1,6 +1,15 @@
 use Rattle.std.proofs.Common.{◌∙◌, sym}
-use Rattle.simplex_c.proofs.Numbers.{done_by}
+use Rattle.simplex_c.proofs.Numbers.{device_by, done_by, foreign_by, refused_by}
 use Rattle.simplex_c.proofs.node.voumlis_proved_node_open.Goals as goal
 
 pub returns-clause-begun : goal.returns-clause-begun
 returns-clause-begun c = λ is. c.opened.ensures.begun (done_by c.opened.result (sym c.number-2.ensures ∙ is))
+
+pub returns-clause-refused : goal.returns-clause-refused
+returns-clause-refused c = λ is. c.opened.ensures.refused (refused_by c.opened.result (sym c.number-2.ensures ∙ is))
+
+pub returns-clause-foreign : goal.returns-clause-foreign
+returns-clause-foreign c = λ is. c.opened.ensures.foreign (foreign_by c.opened.result (sym c.number-2.ensures ∙ is))
+
+pub returns-clause-device : goal.returns-clause-device
+returns-clause-device c = λ is. c.opened.ensures.device (device_by c.opened.result (sym c.number-2.ensures ∙ is))

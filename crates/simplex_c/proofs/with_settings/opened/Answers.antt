@@ -1,5 +1,5 @@
 use Rattle.std.proofs.Common.{◌∙◌, arith, sym}
-use Rattle.simplex_c.proofs.Unfit.{fault_by, form_by, named_but_fault, named_of, never_done, never_no_record, never_torn, not_fault, not_form, told_within, unnamed_but_form, unnamed_of}
+use Rattle.simplex_c.proofs.Unfit.{fault_by, form_by, named_but_fault, named_of, never_device, never_done, never_foreign, never_no_record, never_refused, never_torn, not_fault, not_form, told_within, unnamed_but_form, unnamed_of}
 use Rattle.simplex_c.proofs.with_settings.opened.Goals as goal
 
 -- an opening by these settings
@@ -8,6 +8,15 @@ returns-in-Ok-clause-begun c = λ is. (c.in-Ok.settings, (c.in-Ok.ensures.form, 
 
 pub returns-in-Ok-clause-looked : goal.returns-in-Ok-clause-looked
 returns-in-Ok-clause-looked c = λ is. (c.in-Ok.settings, (c.in-Ok.ensures.form, c.in-Ok.ensures.said, c.in-Ok.ensures.good), c.opened_by.ensures.looked is)
+
+pub returns-in-Ok-clause-refused : goal.returns-in-Ok-clause-refused
+returns-in-Ok-clause-refused c = λ is. (c.in-Ok.settings, (c.in-Ok.ensures.form, c.in-Ok.ensures.said, c.in-Ok.ensures.good), c.opened_by.ensures.refused is)
+
+pub returns-in-Ok-clause-foreign : goal.returns-in-Ok-clause-foreign
+returns-in-Ok-clause-foreign c = λ is. (c.in-Ok.settings, (c.in-Ok.ensures.form, c.in-Ok.ensures.said, c.in-Ok.ensures.good), c.opened_by.ensures.foreign is)
+
+pub returns-in-Ok-clause-device : goal.returns-in-Ok-clause-device
+returns-in-Ok-clause-device c = λ is. (c.in-Ok.settings, (c.in-Ok.ensures.form, c.in-Ok.ensures.said, c.in-Ok.ensures.good), c.opened_by.ensures.device is)
 
 pub returns-in-Ok-clause-fault : goal.returns-in-Ok-clause-fault
 returns-in-Ok-clause-fault c = λ is. absurd (not_fault c.opened_by.result c.opened_by.ensures.bound is)
@@ -33,6 +42,15 @@ returns-in-Err-clause-opened c = λ is. absurd (never_done c.in-Err.why (sym c.t
 
 pub returns-in-Err-clause-looked : goal.returns-in-Err-clause-looked
 returns-in-Err-clause-looked c = λ is. absurd (never_done c.in-Err.why (sym c.tell_unfit.ensures.status ∙ is))
+
+pub returns-in-Err-clause-refused : goal.returns-in-Err-clause-refused
+returns-in-Err-clause-refused c = λ is. absurd (never_refused c.in-Err.why (sym c.tell_unfit.ensures.status ∙ is))
+
+pub returns-in-Err-clause-foreign : goal.returns-in-Err-clause-foreign
+returns-in-Err-clause-foreign c = λ is. absurd (never_foreign c.in-Err.why (sym c.tell_unfit.ensures.status ∙ is))
+
+pub returns-in-Err-clause-device : goal.returns-in-Err-clause-device
+returns-in-Err-clause-device c = λ is. absurd (never_device c.in-Err.why (sym c.tell_unfit.ensures.status ∙ is))
 
 pub returns-in-Err-clause-fault : goal.returns-in-Err-clause-fault
 returns-in-Err-clause-fault c = λ is. fault_by c.args.numbers.now c.args.base.now c.args.seed.now c.tell_unfit.new.found.named c.tell_unfit.new.found.place c.in-Err.why (sym c.tell_unfit.ensures.status ∙ is)

@@ -1,5 +1,5 @@
 use Rattle.std.proofs.Common.{◌∙◌, sym}
-use Rattle.simplex_c.proofs.Numbers.{done_by, not_asked, torn_by}
+use Rattle.simplex_c.proofs.Numbers.{device_by, done_by, foreign_by, not_asked, refused_by, torn_by}
 use Rattle.simplex_c.proofs.with_settings.voumlis_proved_node_open_with.Goals as goal
 
 pub returns-clause-begun : goal.returns-clause-begun
@@ -10,3 +10,12 @@ returns-clause-looked c = λ is. c.opened.ensures.looked (done_by c.opened.resul
 
 pub returns-clause-torn : goal.returns-clause-torn
 returns-clause-torn c = λ is. let torn = c.opened.ensures.torn (torn_by c.opened.result (sym c.number-2.ensures ∙ is)) in (not_asked c.args.cuts torn.0, torn.1)
+
+pub returns-clause-refused : goal.returns-clause-refused
+returns-clause-refused c = λ is. c.opened.ensures.refused (refused_by c.opened.result (sym c.number-2.ensures ∙ is))
+
+pub returns-clause-foreign : goal.returns-clause-foreign
+returns-clause-foreign c = λ is. c.opened.ensures.foreign (foreign_by c.opened.result (sym c.number-2.ensures ∙ is))
+
+pub returns-clause-device : goal.returns-clause-device
+returns-clause-device c = λ is. c.opened.ensures.device (device_by c.opened.result (sym c.number-2.ensures ∙ is))
