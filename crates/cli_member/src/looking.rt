@@ -1,7 +1,7 @@
 //! What a disk holds, looked at by a member's settings.
 
 ghost use Rattle.std.specs.Prelude.{◌≡◌, ◌≢◌, IfErr, IfOk, OnErr, OnOk, false, true};
-ghost use Rattle.journal_single.specs.Disk.{counted};
+ghost use Rattle.journal_single.specs.Disk.{tallied};
 ghost use Rattle.cli_settings.specs.Checking.{IsGood};
 ghost use Rattle.cli_opening.specs.Looking.{IsBeyondCut};
 ghost use Rattle.cli_opening.specs.declared.looking.Barred.{Barred};
@@ -37,7 +37,7 @@ pub fn look_for<K: Disk>(
     ensures cut { IfErr result (λ why. cuts ≡ true → IsBeyondCut why) }
     ensures seen { OnOk result (K.keeps → K.seen disk.new ≡ K.seen disk.old) }
     ensures untouched { K.keeps → K.calls disk.new ≡ K.calls disk.old }
-    ensures device { IfErr result (λ why. why ≡ barred.Device → K.failed disk.new ≡ counted false (K.failed disk.old)) }
+    ensures device { IfErr result (λ why. why ≡ barred.Device → K.failed disk.new ≡ tallied false (K.failed disk.old)) }
     ensures no_fault { OnOk result (K.failed disk.new ≡ K.failed disk.old) }
     ensures no_fault_of_others { IfErr result (λ why. why ≢ barred.Device → K.failed disk.new ≡ K.failed disk.old) }
 {

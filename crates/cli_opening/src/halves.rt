@@ -2,7 +2,7 @@
 //! written over by the next rewrite. So each has to be the member's.
 
 ghost use Rattle.std.specs.Prelude.{◌≡◌, ◌≢◌, ◌+◌, ◌≤◌, ◌<◌, ◌^◌, ℕ, IfErr, IfOk, OnOk, codes, drop, false, length, true};
-ghost use Rattle.journal_single.specs.Disk.{counted};
+ghost use Rattle.journal_single.specs.Disk.{tallied};
 ghost use Rattle.simplex_journal.specs.Generation.{IsOf};
 ghost use Rattle.cli_tool.specs.ToolAnswers.{owner_of};
 ghost use Rattle.cli_opening.specs.Halves.{IsBarredOnHalf, IsFoundOnHalf, behind, place_of};
@@ -73,7 +73,7 @@ pub fn look_over_half<K: Disk>(
     ensures barred { IfErr result (λ why. K.keeps → IsBarredOnHalf (codes "simplex") count (owner_of index) (K.seen disk.old) why) }
     ensures cut { IfErr result (λ why. cuts ≡ true → IsBeyondCut why) }
     ensures untouched { K.keeps → K.calls disk.new ≡ K.calls disk.old }
-    ensures device { IfErr result (λ why. why ≡ barred.Device → K.failed disk.new ≡ counted false (K.failed disk.old)) }
+    ensures device { IfErr result (λ why. why ≡ barred.Device → K.failed disk.new ≡ tallied false (K.failed disk.old)) }
     ensures no_fault { OnOk result (K.failed disk.new ≡ K.failed disk.old) }
     ensures no_fault_of_others { IfErr result (λ why. why ≢ barred.Device → K.failed disk.new ≡ K.failed disk.old) }
 {
@@ -101,7 +101,7 @@ pub fn look_over_half_by<K: Disk>(
     ensures cut { IfErr result (λ why. cuts ≡ true → IsBeyondCut why) }
     ensures seen { OnOk result (K.keeps → K.seen disk.new ≡ K.seen disk.old) }
     ensures untouched { K.keeps → K.calls disk.new ≡ K.calls disk.old }
-    ensures device { IfErr result (λ why. why ≡ barred.Device → K.failed disk.new ≡ counted false (K.failed disk.old)) }
+    ensures device { IfErr result (λ why. why ≡ barred.Device → K.failed disk.new ≡ tallied false (K.failed disk.old)) }
     ensures no_fault { OnOk result (K.failed disk.new ≡ K.failed disk.old) }
     ensures no_fault_of_others { IfErr result (λ why. why ≢ barred.Device → K.failed disk.new ≡ K.failed disk.old) }
 {

@@ -1,7 +1,7 @@
 //! What a record's bytes hold.
 
 ghost use Rattle.std.specs.Prelude.{◌≡◌, ◌≢◌, ◌<◌, [], All, IfErr, IfOk, OnOk, drop, false, map, true};
-ghost use Rattle.journal_single.specs.Disk.{counted};
+ghost use Rattle.journal_single.specs.Disk.{tallied};
 ghost use Rattle.journal_single.specs.Record.{IsFound};
 ghost use Rattle.journal_look.specs.Look.{BeginsLikeOne, IsStrange, IsTooMuch, IsUnclosed};
 ghost use Rattle.cli_tool.specs.ToolAnswers.{IsEntry, entry_spelling, owner_of};
@@ -84,7 +84,7 @@ pub fn look_over<K: Disk>(
     ensures barred { IfErr result (λ why. K.keeps → IsBarred index count (K.seen disk.old) why) }
     ensures cut { IfErr result (λ why. cuts ≡ true → IsBeyondCut why) }
     ensures untouched { K.keeps → K.calls disk.new ≡ K.calls disk.old }
-    ensures device { IfErr result (λ why. why ≡ barred.Device → K.failed disk.new ≡ counted false (K.failed disk.old)) }
+    ensures device { IfErr result (λ why. why ≡ barred.Device → K.failed disk.new ≡ tallied false (K.failed disk.old)) }
     ensures no_fault { OnOk result (K.failed disk.new ≡ K.failed disk.old) }
     ensures no_fault_of_others { IfErr result (λ why. why ≢ barred.Device → K.failed disk.new ≡ K.failed disk.old) }
 {
@@ -112,7 +112,7 @@ pub fn look_over_by<K: Disk>(
     ensures cut { IfErr result (λ why. cuts ≡ true → IsBeyondCut why) }
     ensures seen { OnOk result (K.keeps → K.seen disk.new ≡ K.seen disk.old) }
     ensures untouched { K.keeps → K.calls disk.new ≡ K.calls disk.old }
-    ensures device { IfErr result (λ why. why ≡ barred.Device → K.failed disk.new ≡ counted false (K.failed disk.old)) }
+    ensures device { IfErr result (λ why. why ≡ barred.Device → K.failed disk.new ≡ tallied false (K.failed disk.old)) }
     ensures no_fault { OnOk result (K.failed disk.new ≡ K.failed disk.old) }
     ensures no_fault_of_others { IfErr result (λ why. why ≢ barred.Device → K.failed disk.new ≡ K.failed disk.old) }
 {

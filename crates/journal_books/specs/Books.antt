@@ -1,7 +1,7 @@
 -- A record over one disk or over two, in the same words: what is read of them, and no image.
-use Rattle.std.specs.Prelude.{◌≡◌, ◌⊎◌, ◌-◌, ◌^◌, nat_lt, ℕ, Bool, true, false, List, [], ◌∷◌, ◌++◌}
+use Rattle.std.specs.Prelude.{◌≡◌, ◌⊎◌, ◌<◌, ◌≤◌, ◌-◌, ◌^◌, nat_lt, ℕ, Bool, true, false, List, [], ◌∷◌, ◌++◌, length, drop, min}
 use Rattle.journal_single.specs.declared.disk.Disk as disk
-use Rattle.journal_single.specs.Disk.{MayLeave, LeavesOnly, Synced, counted}
+use Rattle.journal_single.specs.Disk.{MayLeave, LeavesOnly, Synced, tallied}
 use Rattle.journal_single.specs.Journal.{IsRecord, IsTooLong}
 use Rattle.journal_single.specs.Looking.{HasFound, IsLeftAsItWas}
 use Rattle.journal_single.specs.Record.{Reads, FitsBelow, IsForeign}
@@ -92,9 +92,32 @@ module _ {K : Type 0} (k : disk.Ghosts K) where
         LeavesSince now.is_first now.generation (k.calls before) (k.calls now.first) (k.calls before-2) (k.calls now.second) P
     LeaveSince before now P = ⊥
 
+  -- what waits on them, the first one's before the second's
+  abbrev pub waits_of : Disks K → List ℕ
+  waits_of (One on) = k.waits on
+  waits_of (Two first second) = k.waits first ++ k.waits second
+
+  -- each is what it is once that was handed on
+  abbrev pub HandOn : Disks K → Disks K → Type 0
+  HandOn (One old) (One new) = k.hands old new
+  HandOn (Two old old-2) (Two new new-2) = k.hands old new × k.hands old-2 new-2
+  HandOn old new = ⊥
+
+  -- nothing more was asked of them
+  abbrev pub AreAskedNoMore : Disks K → Disks K → Type 0
+  AreAskedNoMore (One old) (One new) = k.calls new ≡ k.calls old
+  AreAskedNoMore (Two old old-2) (Two new new-2) = (k.calls new ≡ k.calls old) × (k.calls new-2 ≡ k.calls old-2)
+  AreAskedNoMore old new = ⊥
+
+  -- what is their own is as it was: nothing of what waits was handed on
+  abbrev pub HaveSameOwn : Disks K → Disks K → Type 0
+  HaveSameOwn (One old) (One new) = (k.failed new).own ≡ (k.failed old).own
+  HaveSameOwn (Two old old-2) (Two new new-2) = ((k.failed new).own ≡ (k.failed old).own) × ((k.failed new-2).own ≡ (k.failed old-2).own)
+  HaveSameOwn old new = ⊥
+
   -- one of them has failed once more
   abbrev pub HasFailed : Disks K → Disks K → Type 0
-  HasFailed (One old) (One new) = k.failed new ≡ counted false (k.failed old)
+  HasFailed (One old) (One new) = k.failed new ≡ tallied false (k.failed old)
   HasFailed (Two old old-2) (Two new new-2) = OneCounted false (k.failed old) (k.failed new) (k.failed old-2) (k.failed new-2)
   HasFailed old new = ⊥
 
@@ -120,6 +143,16 @@ module _ {K : Type 0} (k : disk.Ghosts K) where
     abbrev pub IsBook : (M → List ℕ) → Books M K → List M → Type 0
     IsBook spelling (books.One journal) messages = IsRecord spelling k.seen k.calls journal messages
     IsBook spelling (books.Two pair) messages = IsPairRecord spelling k.seen k.calls pair messages
+
+    -- what waited on a journal's disks was handed on, and fills the front of this room; or it doesn't fit, and waits on
+    pub record IsHandedOn (old new : Books M K) (room filled : List ℕ) (size : ℕ) : Type 0 where
+      pub size_is : size ≡ min (length (waits_of (disks_of old))) (2 ^ 64 - 1)
+      pub hands : size ≤ length room → HandOn (disks_of old) (disks_of new)
+      pub handed : size ≤ length room → filled ≡ waits_of (disks_of old) ++ drop size room
+      pub no_room : length room < size → (new ≡ old) × (filled ≡ room)
+      pub asked : k.keeps → AreAskedNoMore (disks_of old) (disks_of new)
+      pub record_ : (spelling : M → List ℕ) (messages : List M) → k.keeps → IsBook spelling old messages → IsBook spelling new messages
+      pub failed : has_failed new ≡ has_failed old
 
     -- these messages were found on the disks
     abbrev pub HasFoundOn : (M → List ℕ) → FoundBooks M K → List M → Type 0

@@ -1,7 +1,7 @@
 -- What is read of disks: lemmas.
 use Rattle.std.proofs.Common.{◌≡◌, ◌⊎◌, inl, inr, ⊎_elim, ℕ, Bool, true, false, List, refl, sym, ◌∙◌, ap, subst, map}
 use Rattle.journal_single.specs.declared.disk.Disk as disk
-use Rattle.journal_single.specs.Disk.{Call, LeavesOnly, MayLeave, counted}
+use Rattle.journal_single.specs.Disk.{Call, LeavesOnly, MayLeave, tallied}
 use Rattle.journal_single.specs.Moments.{and_then, at_last, weaker}
 use Rattle.journal_single.specs.OneReading.{unique}
 use Rattle.journal_single.specs.Record.{Reads}
@@ -14,7 +14,7 @@ use Rattle.journal_books.specs.declared.books.Books.{Books}
 use Rattle.journal_books.specs.declared.books.Books.TheVariants as books
 use Rattle.journal_books.specs.declared.disks.Disks.{Disks}
 use Rattle.journal_books.specs.declared.disks.Disks.TheVariants.{One, Two}
-use Rattle.journal_books.specs.Books.{AreRead, HasFailed, HasNotFailed, IsBook, Leave, LeaveBook, LeaveSince, MayBeRead, are_two, disks_of}
+use Rattle.journal_books.specs.Books.{AreRead, HasFailed, HasNotFailed, HaveSameOwn, IsBook, Leave, LeaveBook, LeaveSince, MayBeRead, are_two, disks_of}
 
 -- an image reads as bodies that have P, and two do
 abbrev ReadsOne : (List (List ℕ) → Type 0) → List ℕ → Type 0
@@ -39,14 +39,29 @@ module _ {K : Type 0} (k : disk.Ghosts K) where
   not_failed_then (Two old old-2) (Two mid mid-2) (One new) one other = absurd other
 
   pub failed_then : (old mid new : Disks K) → HasNotFailed k old mid → HasFailed k mid new → HasFailed k old new
-  failed_then (One old) (One mid) (One new) one other = other ∙ ap (counted false) one
+  failed_then (One old) (One mid) (One new) one other = other ∙ ap (tallied false) one
   failed_then (Two old old-2) (Two mid mid-2) (Two new new-2) one other = ⊎_elim
-      (λ first. inl (first.0 ∙ ap (counted false) one.0, first.1 ∙ one.1))
-      (λ second. inr (second.0 ∙ one.0, second.1 ∙ ap (counted false) one.1)) other
+      (λ first. inl (first.0 ∙ ap (tallied false) one.0, first.1 ∙ one.1))
+      (λ second. inr (second.0 ∙ one.0, second.1 ∙ ap (tallied false) one.1)) other
   failed_then (One old) (Two mid mid-2) new one other = absurd one
   failed_then (Two old old-2) (One mid) new one other = absurd one
   failed_then (One old) (One mid) (Two new new-2) one other = absurd other
   failed_then (Two old old-2) (Two mid mid-2) (One new) one other = absurd other
+
+  -- what is their own is as it was, whether one has failed or none
+  pub same_own : (old new : Disks K) → HasNotFailed k old new → HaveSameOwn k old new
+  same_own (One old) (One new) told = ap (λ a. a.own) told
+  same_own (Two old old-2) (Two new new-2) told = (ap (λ a. a.own) told.0, ap (λ a. a.own) told.1)
+  same_own (One old) (Two new new-2) told = absurd told
+  same_own (Two old old-2) (One new) told = absurd told
+
+  pub same_own_failed : (old new : Disks K) → HasFailed k old new → HaveSameOwn k old new
+  same_own_failed (One old) (One new) told = ap (λ a. a.own) told
+  same_own_failed (Two old old-2) (Two new new-2) told = ⊎_elim
+      (λ first. (ap (λ a. a.own) first.0, ap (λ a. a.own) first.1))
+      (λ second. (ap (λ a. a.own) second.0, ap (λ a. a.own) second.1)) told
+  same_own_failed (One old) (Two new new-2) told = absurd told
+  same_own_failed (Two old old-2) (One new) told = absurd told
 
   -- they are as many as before
   pub same_kind : (old new : Disks K) → HasNotFailed k old new → are_two new ≡ are_two old

@@ -2,7 +2,7 @@
 
 ghost use Rattle.std.specs.Prelude.{◌≡◌, ◌≢◌, ◌⊎◌, ◌+◌, ◌-◌, ◌<◌, ◌^◌, ◌++◌, [], ◌∷◌, List, ℕ, length, map, All, OnOk, IfErr, IsErrOf, true, false};
 ghost use Rattle.simplex_journal.specs.declared.fault.PairFault.TheVariants.{Device, Exhausted, Failed, Memory, TooLong};
-ghost use Rattle.journal_books.specs.Books.{Leave, LeaveBook, HasFailed, HasNotFailed, IsBook, IsTooLongFor, IsWithOrWithout, are_two, disks_of, generation_of, has_failed, may_rewrite};
+ghost use Rattle.journal_books.specs.Books.{Leave, LeaveBook, HasFailed, HasNotFailed, IsBook, IsHandedOn, IsTooLongFor, IsWithOrWithout, are_two, disks_of, generation_of, has_failed, may_rewrite};
 ghost use Rattle.simplex_journal.specs.Standing.{IsShortList};
 
 use crate::disks::Disks;
@@ -130,6 +130,17 @@ impl<M: Read + EncodeSize + Drop, K: Disk> Books<M, K> {
         match self {
             Books::One(_) => Err(PairFault::Exhausted),
             Books::Two(pair) => pair.rewrite(list),
+        }
+    }
+
+    /// Hands on what waits on its disks, the first one's before the second's, where it fits at the front of the room. How many bytes wait,
+    /// up to 2^64-1.
+    pub fn hand_on(&mut self, room: &mut [u8]) -> usize
+        ensures { IsHandedOn K.Disk self.old self.new room.old room.new result }
+    {
+        match self {
+            Books::One(journal) => journal.hand_on(room),
+            Books::Two(pair) => pair.hand_on(room),
         }
     }
 

@@ -62,3 +62,13 @@ pub record LeavesOnly (old new : List Call) (P : List ℕ → Type 0) : Type 0 w
 abbrev pub counted : Bool → ℕ → ℕ
 counted true failures = failures
 counted false failures = min (failures + 1) (2 ^ 64 - 1)
+
+-- how often a call of a disk has answered a fault, and beside that what no call changes but one that hands on what waits
+pub record Account (Own : Type 0) : Type 0 where
+  pub faults : ℕ
+  pub own : Own
+
+-- one fault more where a call answered one
+abbrev pub tallied : {Own : Type 0} → Bool → Account Own → Account Own
+tallied true account = account
+tallied false account = record { faults = counted false account.faults; own = account.own }

@@ -7,7 +7,7 @@ use Rattle.journal_single.specs.declared.history.Request.{Request}
 use Rattle.journal_single.specs.declared.history.Request.TheVariants.{Open, Append, Crash}
 use Rattle.journal_single.specs.declared.history.Stage.{Stage}
 use Rattle.journal_single.specs.declared.history.Stage.TheVariants as stage
-use Rattle.journal_single.specs.Disk.{Call, Synced, MayLeave, LeavesOnly, counted}
+use Rattle.journal_single.specs.Disk.{Account, Call, Synced, MayLeave, LeavesOnly, tallied}
 use Rattle.journal_single.specs.Journal.{IsRecord, IsTooLong}
 use Rattle.journal_single.specs.Record.{Reads, IsReopened, IsForeign, end_of}
 
@@ -109,14 +109,14 @@ module _ {M : Type 0} where
   Leaves spelling given history (NotOpen message) before after = after ≡ before
   Leaves spelling given history event before after = LeavesOnly before after (MayRead spelling given (cut_off event ∷ history))
 
-  -- how often a disk has failed after an event: once more where a call failed for the disk
-  abbrev pub failures_after : Event M → ℕ → ℕ
-  failures_after (OpenFailed Device) failures = counted false failures
-  failures_after (AppendFailed message Device) failures = counted false failures
+  -- what is counted of a disk after an event: one fault more where a call failed for the disk
+  abbrev pub failures_after : {Own : Type 0} → Event M → Account Own → Account Own
+  failures_after (OpenFailed Device) failures = tallied false failures
+  failures_after (AppendFailed message Device) failures = tallied false failures
   failures_after event failures = failures
 
   -- how often a disk has failed after a history, from how often it had before
-  abbrev pub failures_told : ℕ → List (Event M) → ℕ
+  abbrev pub failures_told : {Own : Type 0} → Account Own → List (Event M) → Account Own
   failures_told given [] = given
   failures_told given (event ∷ history) = failures_after event (failures_told given history)
 
@@ -196,18 +196,18 @@ module _ {M : Type 0} where
   -- How a disk came from before an event to after it. A crash came to it. It is the very same where nothing was asked of
   -- it, and where an append was refused for anything else than its fault. An opening that was refused for anything else
   -- synced it and no more. Its faults are counted with the event that tells them.
-  abbrev pub Comes : {K : Type 0} → Type 0 → (K → List Call) → (K → K → Type 0) → (K → ℕ) → Event M → K → K → Type 0
+  abbrev pub Comes : {K Own : Type 0} → Type 0 → (K → List Call) → (K → K → Type 0) → (K → Account Own) → Event M → K → K → Type 0
   Comes keeps calls crashed failed Crashed before after = crashed before after
   Comes keeps calls crashed failed (NotOpen message) before after = after ≡ before
-  Comes keeps calls crashed failed (AppendFailed message Device) before after = failed after ≡ counted false (failed before)
+  Comes keeps calls crashed failed (AppendFailed message Device) before after = failed after ≡ tallied false (failed before)
   Comes keeps calls crashed failed (AppendFailed message fault) before after = after ≡ before
-  Comes keeps calls crashed failed (OpenFailed Device) before after = failed after ≡ counted false (failed before)
+  Comes keeps calls crashed failed (OpenFailed Device) before after = failed after ≡ tallied false (failed before)
   Comes keeps calls crashed failed (OpenFailed fault) before after = (failed after ≡ failed before) × (keeps → (bytes : List ℕ) × (calls after ≡ Synced bytes ∷ calls before))
   Comes keeps calls crashed failed event before after = failed after ≡ failed before
 
   -- A disk came by these events to what it is now: as it was given at the start, then what each event makes of the disk
   -- before it, and leaves of it where a crash comes.
-  abbrev pub CameBy : {K : Type 0} → (M → List ℕ) → Type 0 → (K → List Call) → (K → K → Type 0) → (K → ℕ) → K → List (Event M) → K → Type 0
+  abbrev pub CameBy : {K Own : Type 0} → (M → List ℕ) → Type 0 → (K → List Call) → (K → K → Type 0) → (K → Account Own) → K → List (Event M) → K → Type 0
   CameBy spelling keeps calls crashed failed given [] now = now ≡ given
   CameBy {K} spelling keeps calls crashed failed given (event ∷ history) now =
       (before : K) × CameBy spelling keeps calls crashed failed given history before × Comes keeps calls crashed failed event before now × (keeps → Leaves spelling (calls given) history event (calls before) (calls now))

@@ -13,3 +13,4 @@ pub mod Total
 pub mod Refusals
 pub mod Looking
 pub mod LookingLaws
+pub mod JournalLaws

@@ -1,7 +1,7 @@
 //! A disk as the journal sees it, and what a crash may leave of it.
 
 ghost use Rattle.std.specs.Prelude.{◌≡◌, ◌⊎◌, ◌≤◌, ◌+◌, List, ℕ, ◌∷◌, length, take, drop, IfOk, OnOk, OnErr, is_ok};
-ghost use Rattle.journal_single.specs.Disk.{Call, Wrote, CutTo, Synced, MayLeave, IsOverwritten, counted};
+ghost use Rattle.journal_single.specs.Disk.{Account, Call, Wrote, CutTo, Synced, MayLeave, IsOverwritten, tallied};
 
 /// A call of a disk failed.
 #[derive(Clone, Copy, Debug, Drop, PartialEq, Eq)]
@@ -24,19 +24,41 @@ pub trait Disk: Drop {
     /// What was asked of the disk, the newest first.
     ghost calls: { Self → List Call };
 
-    /// How often a call has answered a fault.
-    ghost failed: { Self → ℕ };
+    /// What is the disk's own: no call changes it but one that hands on what waits.
+    ghost Own: { Type 0 };
+
+    /// How often a call has answered a fault, and what is the disk's own.
+    ghost failed: { Self → Account Own };
+
+    /// What waits to be handed on: the bytes of what it asks of a host that carries out its calls. None, where it carries them out itself.
+    ghost waits: { Self → List ℕ };
+
+    /// What it is once that was handed on, by what it was.
+    ghost hands: { Self → Self → Type 0 };
 
     /// How often a call has answered a fault, up to 2^64-1, where it stays.
     fn failures(&self) -> u64
-        ensures { result ≡ failed self.now };
+        ensures { result ≡ (failed self.now).faults };
+
+    /// How many bytes wait to be handed on.
+    fn waiting(&self) -> usize
+        ensures { result ≡ length (waits self.now) };
+
+    /// Hands on what waits: fills the room with it, which has to have its length.
+    fn hand_on(&mut self, room: &mut [u8])
+        requires { length room.old ≡ length (waits self.old) }
+        ensures handed { room.new ≡ waits self.old }
+        ensures hands { hands self.old self.new }
+        ensures seen { keeps → seen self.new ≡ seen self.old }
+        ensures calls { keeps → calls self.new ≡ calls self.old }
+        ensures cause { (failed self.new).faults ≡ (failed self.old).faults };
 
     /// How many bytes the disk holds.
     fn len(&mut self) -> Result<u64, DiskFault>
         ensures len { IfOk result (λ n. keeps → n ≡ length (seen self.old)) }
         ensures seen { OnOk result (keeps → seen self.new ≡ seen self.old) }
         ensures calls { keeps → calls self.new ≡ calls self.old }
-        ensures cause { failed self.new ≡ counted (is_ok result) (failed self.old) };
+        ensures cause { failed self.new ≡ tallied (is_ok result) (failed self.old) };
 
     /// Fills the buffer with the bytes from a place on, all of which must be there.
     fn read(&mut self, at: u64, buffer: &mut [u8]) -> Result<(), DiskFault>
@@ -44,7 +66,7 @@ pub trait Disk: Drop {
         ensures bytes { OnOk result (keeps → buffer.new ≡ take (length buffer.old) (drop at (seen self.old))) }
         ensures seen { OnOk result (keeps → seen self.new ≡ seen self.old) }
         ensures calls { keeps → calls self.new ≡ calls self.old }
-        ensures cause { failed self.new ≡ counted (is_ok result) (failed self.old) };
+        ensures cause { failed self.new ≡ tallied (is_ok result) (failed self.old) };
 
     /// Writes bytes from a place on, which must not lie past the end: over what is there, and past the
     /// end.
@@ -53,7 +75,7 @@ pub trait Disk: Drop {
         ensures written { OnOk result (keeps → IsOverwritten (seen self.old) at bytes.now (seen self.new)) }
         ensures calls { OnOk result (keeps → calls self.new ≡ Wrote at (length bytes.now) ∷ calls self.old) }
         ensures tried { OnErr result (keeps → (calls self.new ≡ calls self.old) ⊎ (calls self.new ≡ Wrote at (length bytes.now) ∷ calls self.old)) }
-        ensures cause { failed self.new ≡ counted (is_ok result) (failed self.old) };
+        ensures cause { failed self.new ≡ tallied (is_ok result) (failed self.old) };
 
     /// Cuts off all behind a length, which must not be above the disk's.
     fn cut(&mut self, len: u64) -> Result<(), DiskFault>
@@ -61,14 +83,14 @@ pub trait Disk: Drop {
         ensures cut { OnOk result (keeps → seen self.new ≡ take len (seen self.old)) }
         ensures calls { OnOk result (keeps → calls self.new ≡ CutTo len ∷ calls self.old) }
         ensures tried { OnErr result (keeps → (calls self.new ≡ calls self.old) ⊎ (calls self.new ≡ CutTo len ∷ calls self.old)) }
-        ensures cause { failed self.new ≡ counted (is_ok result) (failed self.old) };
+        ensures cause { failed self.new ≡ tallied (is_ok result) (failed self.old) };
 
     /// Fixes what a read gives: from then on a crash leaves that. A sync that failed fixes nothing.
     fn sync(&mut self) -> Result<(), DiskFault>
         ensures fixed { OnOk result (keeps → calls self.new ≡ Synced (seen self.old) ∷ calls self.old) }
         ensures seen { OnOk result (keeps → seen self.new ≡ seen self.old) }
         ensures calls { OnErr result (keeps → calls self.new ≡ calls self.old) }
-        ensures cause { failed self.new ≡ counted (is_ok result) (failed self.old) };
+        ensures cause { failed self.new ≡ tallied (is_ok result) (failed self.old) };
 
     /// What a read gives is one of the contents that a crash may leave.
     ghost seen_is_left: { (disk : Self) → keeps → MayLeave (calls disk) (seen disk) };

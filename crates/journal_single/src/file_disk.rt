@@ -115,17 +115,31 @@ fn folder_of(path: &str) -> Path<'_> {
 }
 
 impl Disk for FileDisk {
+    ghost use Rattle.std.specs.Prelude.{⊤, ◌≡◌, []};
+
     ghost keeps = { ⊥ };
 
     ghost seen = { λ _. [] };
 
     ghost calls = { λ _. [] };
 
-    ghost failed = { λ disk. disk.failures };
+    ghost Own = { ⊤ };
+
+    ghost failed = { λ disk. record { faults = disk.failures; own = tt } };
+
+    ghost waits = { λ _. [] };
+
+    ghost hands = { λ old new. new ≡ old };
 
     fn failures(&self) -> u64 {
         self.failures
     }
+
+    fn waiting(&self) -> usize {
+        0
+    }
+
+    fn hand_on(&mut self, _room: &mut [u8]) {}
 
     fn len(&mut self) -> Result<u64, DiskFault>
         ensures broken { self.old.broken ≡ true → IsErr result }

@@ -1,9 +1,9 @@
 //! The journal: a list of messages on a disk.
 
-ghost use Rattle.std.specs.Prelude.{◌≡◌, ◌≢◌, ◌⊎◌, ◌+◌, ◌<◌, ◌≤◌, ◌^◌, ◌++◌, [], ◌∷◌, List, ℕ, length, map, All, true, false, IfOk, IfErr, OnOk, IsErrOf, is_ok};
+ghost use Rattle.std.specs.Prelude.{◌≡◌, ◌≢◌, ◌⊎◌, ◌+◌, ◌<◌, ◌≤◌, ◌^◌, ◌++◌, [], ◌∷◌, List, ℕ, length, drop, map, All, true, false, IfOk, IfErr, OnOk, IsErrOf, is_ok};
 ghost use Rattle.types_codec.specs.Codec.{Readable};
 ghost use Rattle.journal_single.specs.declared.fault.JournalFault.TheVariants.{Device, Failed, Foreign, Memory, TooLong};
-ghost use Rattle.journal_single.specs.Disk.{MayLeave, LeavesOnly, Synced, counted};
+ghost use Rattle.journal_single.specs.Disk.{MayLeave, LeavesOnly, Synced, tallied};
 ghost use Rattle.journal_single.specs.Journal.{IsRecord, IsTooLong};
 ghost use Rattle.journal_single.specs.Looking.{HasFound, IsAtMostSynced, IsLeftAsItWas};
 ghost use Rattle.journal_single.specs.Record.{Spells, Reads, IsAtRest, IsForeign, IsWithOrWithout, IsReopened};
@@ -66,7 +66,7 @@ impl<M: Read + EncodeSize + Drop, K: Disk> Journal<M, K> {
         ensures any_moment_of_a_fault { IfErr result
             (λ refused. K.keeps → LeavesOnly (K.calls disk) (K.calls refused.1) (IsReopened (K.calls disk))) }
 
-        ensures device { IfErr result (λ refused. refused.0 ≡ Device → K.failed refused.1 ≡ counted false (K.failed disk)) }
+        ensures device { IfErr result (λ refused. refused.0 ≡ Device → K.failed refused.1 ≡ tallied false (K.failed disk)) }
         ensures no_fault { IfOk result (λ opened. K.failed opened.0.disk ≡ K.failed disk) }
         ensures no_fault_of_others { IfErr result (λ refused. refused.0 ≢ Device → K.failed refused.1 ≡ K.failed disk) }
         ensures foreign { IfErr result (λ refused.
@@ -102,7 +102,7 @@ impl<M: Read + EncodeSize + Drop, K: Disk> Journal<M, K> {
         ensures untouched { IfOk result (λ looked. K.keeps → IsLeftAsItWas K.seen K.calls disk looked.0.disk) }
         ensures untouched_by_others { IfErr result (λ refused. refused.0 ≢ Device → K.keeps → IsLeftAsItWas K.seen K.calls disk refused.1) }
         ensures synced_at_most { IfErr result (λ refused. K.keeps → IsAtMostSynced (K.seen disk) (K.calls disk) (K.calls refused.1)) }
-        ensures device { IfErr result (λ refused. refused.0 ≡ Device → K.failed refused.1 ≡ counted false (K.failed disk)) }
+        ensures device { IfErr result (λ refused. refused.0 ≡ Device → K.failed refused.1 ≡ tallied false (K.failed disk)) }
         ensures no_fault { IfOk result (λ looked. K.failed looked.0.disk ≡ K.failed disk) }
         ensures no_fault_of_others { IfErr result (λ refused. refused.0 ≢ Device → K.failed refused.1 ≡ K.failed disk) }
         ensures foreign { IfErr result (λ refused.
@@ -127,9 +127,31 @@ impl<M: Read + EncodeSize + Drop, K: Disk> Journal<M, K> {
 
     /// How often a call of the disk has failed, up to 2^64-1, where it stays.
     pub fn failures(&self) -> u64
-        ensures { result ≡ K.failed self.now.disk }
+        ensures { result ≡ (K.failed self.now.disk).faults }
     {
         self.disk.failures()
+    }
+
+    /// Hands on what waits on the disk, where it fits at the front of the room. How many bytes wait.
+    pub fn hand_on(&mut self, room: &mut [u8]) -> usize
+        ensures size { result ≡ length (K.waits self.old.disk) }
+        ensures hands { result ≤ length room.old → K.hands self.old.disk self.new.disk }
+        ensures handed { result ≤ length room.old → room.new ≡ K.waits self.old.disk ++ drop result room.old }
+        ensures no_room { length room.old < result → (self.new ≡ self.old) × (room.new ≡ room.old) }
+        ensures record { (spelling : M → List ℕ) (messages : List M)
+            → K.keeps
+            → IsRecord spelling K.seen K.calls self.old messages
+            → IsRecord spelling K.seen K.calls self.new messages }
+        ensures calls { K.keeps → K.calls self.new.disk ≡ K.calls self.old.disk }
+        ensures faults { (K.failed self.new.disk).faults ≡ (K.failed self.old.disk).faults }
+        ensures stays { self.new.failed ≡ self.old.failed }
+    {
+        let size = self.disk.waiting();
+        if size > room.len() {
+            return size;
+        }
+        self.disk.hand_on(&mut room[..size]);
+        size
     }
 
     /// Whether an append has failed for the disk, so that each further one answers
@@ -174,7 +196,7 @@ impl<M: Read + EncodeSize + Drop, K: Disk> Journal<M, K> {
         ensures stays_open { OnOk result (self.new.failed ≡ false) }
         ensures faults { IfErr result (λ fault. (fault ≡ Device) ⊎ ((fault ≡ Memory) ⊎ ((fault ≡ TooLong) ⊎ (fault ≡ Failed)))) }
         ensures device { IsErrOf result JournalFault.Device
-            → (self.new.failed ≡ true) × (K.failed self.new.disk ≡ counted false (K.failed self.old.disk)) }
+            → (self.new.failed ≡ true) × (K.failed self.new.disk ≡ tallied false (K.failed self.old.disk)) }
         ensures no_fault { OnOk result (K.failed self.new.disk ≡ K.failed self.old.disk) }
         ensures memory { IsErrOf result JournalFault.Memory → self.new ≡ self.old }
         ensures too_long { IsErrOf result JournalFault.TooLong
@@ -256,7 +278,7 @@ impl<M: Read + EncodeSize + Drop, K: Disk> Found<M, K> {
             → HasFound M.spelling K.seen K.calls self messages
             → LeavesOnly (K.calls self.disk) (K.calls refused.1) (λ image. Reads image (map M.spelling messages))) }
 
-        ensures device { IfErr result (λ refused. K.failed refused.1 ≡ counted false (K.failed self.disk)) }
+        ensures device { IfErr result (λ refused. K.failed refused.1 ≡ tallied false (K.failed self.disk)) }
         ensures no_fault { IfOk result (λ journal. K.failed journal.disk ≡ K.failed self.disk) }
     {
         let Found {
@@ -319,7 +341,7 @@ fn add_entry<K: Disk>(disk: &mut K, gate: u64, entry: &[u8]) -> Result<(), DiskF
         → IsAtRest [] (K.seen disk.old) (K.calls disk.old) gate bodies
         → Spells entry.now body
         → LeavesOnly (K.calls disk.old) (K.calls disk.new) (IsWithOrWithout bodies body) }
-    ensures cause { K.failed disk.new ≡ counted (is_ok result) (K.failed disk.old) }
+    ensures cause { K.failed disk.new ≡ tallied (is_ok result) (K.failed disk.old) }
 {
     disk.write_at(gate + 1, entry)?;
     // Behind a gate that is open the entry counts, so it has to be on the disk first.

@@ -255,7 +255,7 @@ impl MemoryDisk {
 }
 
 impl Disk for MemoryDisk {
-    ghost use Rattle.std.specs.Prelude.{⊤};
+    ghost use Rattle.std.specs.Prelude.{⊤, ◌≡◌, []};
 
     ghost keeps = { ⊤ };
 
@@ -263,11 +263,23 @@ impl Disk for MemoryDisk {
 
     ghost calls = { λ disk. disk.calls };
 
-    ghost failed = { λ disk. disk.failures };
+    ghost Own = { ⊤ };
+
+    ghost failed = { λ disk. record { faults = disk.failures; own = tt } };
+
+    ghost waits = { λ _. [] };
+
+    ghost hands = { λ old new. new ≡ old };
 
     fn failures(&self) -> u64 {
         self.faults.failures
     }
+
+    fn waiting(&self) -> usize {
+        0
+    }
+
+    fn hand_on(&mut self, _room: &mut [u8]) {}
 
     fn len(&mut self) -> Result<u64, DiskFault>
         ensures len { IfOk result (λ n. n ≡ length self.old.bytes) }

@@ -3,7 +3,7 @@
 ghost use Rattle.std.specs.Prelude.{◌≡◌, ◌≢◌, ◌+◌, ◌<◌, ◌≤◌, ◌^◌, List, ℕ, length, map, [], ◌∷◌, All, IfErr, IfOk, OnOk, OnErr, is_ok, IsErrOf, true, false, ◌⊎◌};
 ghost use Rattle.types_codec.specs.Codec.{Readable};
 ghost use Rattle.journal_single.specs.declared.fault.JournalFault.TheVariants.{Device, Foreign, Memory};
-ghost use Rattle.journal_single.specs.Disk.{LeavesOnly, Synced, counted};
+ghost use Rattle.journal_single.specs.Disk.{LeavesOnly, Synced, tallied};
 ghost use Rattle.journal_single.specs.Looking.{IsAtMostSynced};
 ghost use Rattle.journal_single.specs.Record.{Reads, IsForeign, IsFound, IsFixed, IsAtRest};
 
@@ -25,7 +25,7 @@ fn repair<K: Disk>(disk: &mut K, gate: u64) -> Result<(), DiskFault>
         → IsAtRest [] (K.seen disk.new) (K.calls disk.new) gate bodies) }
     ensures any_moment { (bodies : List (List ℕ)) → K.keeps → IsFixed (K.seen disk.old) (K.calls disk.old) → IsFound [] (K.seen disk.old) gate bodies
         → LeavesOnly (K.calls disk.old) (K.calls disk.new) (λ image. Reads image bodies) }
-    ensures cause { K.failed disk.new ≡ counted (is_ok result) (K.failed disk.old) }
+    ensures cause { K.failed disk.new ≡ tallied (is_ok result) (K.failed disk.old) }
 {
     disk.cut(gate + 1)?;
     // The cut has to be on the disk first: behind a gate that is torn open, what was there would count.
@@ -42,7 +42,7 @@ fn begin<K: Disk>(disk: &mut K) -> Result<(), DiskFault>
     ensures any_moment { K.keeps
         → IsFixed (K.seen disk.old) (K.calls disk.old)
         → LeavesOnly (K.calls disk.old) (K.calls disk.new) (λ image. Reads image []) }
-    ensures cause { K.failed disk.new ≡ counted (is_ok result) (K.failed disk.old) }
+    ensures cause { K.failed disk.new ≡ tallied (is_ok result) (K.failed disk.old) }
 {
     disk.write_at(0, &[0])?;
     disk.sync()?;
@@ -59,7 +59,7 @@ pub fn read_disk<K: Disk>(alloc: Global, disk: &mut K) -> Result<Vec<u8>, Journa
     ensures seen { OnOk result (K.keeps → K.seen disk.new ≡ K.seen disk.old) }
     ensures seen_of_others { IfErr result (λ fault. fault ≢ Device → K.keeps → K.seen disk.new ≡ K.seen disk.old) }
     ensures calls { K.keeps → K.calls disk.new ≡ K.calls disk.old }
-    ensures device { IsErrOf result JournalFault.Device → K.failed disk.new ≡ counted false (K.failed disk.old) }
+    ensures device { IsErrOf result JournalFault.Device → K.failed disk.new ≡ tallied false (K.failed disk.old) }
     ensures no_fault { OnOk result (K.failed disk.new ≡ K.failed disk.old) }
     ensures no_fault_of_others { IfErr result (λ fault. fault ≢ Device → K.failed disk.new ≡ K.failed disk.old) }
     ensures faults { IfErr result (λ fault. (fault ≡ Device) ⊎ (fault ≡ Memory)) }
@@ -92,7 +92,7 @@ pub(crate) fn finish<K: Disk>(disk: &mut K, gate: u64, is_empty: bool) -> Result
         → IsAtRest [] (K.seen disk.new) (K.calls disk.new) gate bodies) }
     ensures any_moment { (bodies : List (List ℕ)) → K.keeps → IsFixed (K.seen disk.old) (K.calls disk.old) → IsFound [] (K.seen disk.old) gate bodies
         → LeavesOnly (K.calls disk.old) (K.calls disk.new) (λ image. Reads image bodies) }
-    ensures cause { K.failed disk.new ≡ counted (is_ok result) (K.failed disk.old) }
+    ensures cause { K.failed disk.new ≡ tallied (is_ok result) (K.failed disk.old) }
 {
     if is_empty {
         match begin(disk) {
@@ -120,7 +120,7 @@ pub(crate) fn read_record<M: Read + Drop, K: Disk>(
     ensures asked { OnErr result (K.keeps → IsAtMostSynced (K.seen disk.old) (K.calls disk.old) (K.calls disk.new)) }
     ensures seen_of_others { IfErr result (λ fault. fault ≢ Device → K.keeps → K.seen disk.new ≡ K.seen disk.old) }
     ensures fixed_of_others { IfErr result (λ fault. fault ≢ Device → K.keeps → K.calls disk.new ≡ Synced (K.seen disk.old) ∷ K.calls disk.old) }
-    ensures device { IsErrOf result JournalFault.Device → K.failed disk.new ≡ counted false (K.failed disk.old) }
+    ensures device { IsErrOf result JournalFault.Device → K.failed disk.new ≡ tallied false (K.failed disk.old) }
     ensures no_fault { OnOk result (K.failed disk.new ≡ K.failed disk.old) }
     ensures no_fault_of_others { IfErr result (λ fault. fault ≢ Device → K.failed disk.new ≡ K.failed disk.old) }
     ensures foreign { IfErr result (λ fault.

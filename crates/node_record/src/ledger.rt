@@ -11,7 +11,7 @@ ghost use Rattle.simplex_record.specs.Rules.{MayFollow};
 ghost use Rattle.simplex_record.specs.Lawful.{IsLawful, rewritten};
 ghost use Rattle.simplex_journal.specs.declared.fault.PairFault.TheVariants as journal_fault;
 ghost use Rattle.journal_books.specs.Books as words;
-ghost use Rattle.journal_books.specs.Books.{AreLeftAsTheyWere, HasFailed, HasNotFailed, IsBook, IsForeignOn, IsWithOrWithout, Leave, LeaveBook, LeaveSince, MayBeRead, has_failed, may_rewrite};
+ghost use Rattle.journal_books.specs.Books.{AreLeftAsTheyWere, HasFailed, HasNotFailed, IsBook, IsForeignOn, IsHandedOn, IsWithOrWithout, Leave, LeaveBook, LeaveSince, MayBeRead, has_failed, may_rewrite};
 ghost use Rattle.simplex_member.specs.declared.fault.NodeFault.{NodeFault};
 ghost use Rattle.simplex_member.specs.declared.fault.NodeFault.TheVariants as step_fault;
 ghost use Rattle.simplex_member.specs.declared.fault.OpenFault.TheVariants as open_fault;
@@ -254,6 +254,18 @@ impl<S: Scheme<D>, D: Digest, K: Disk> Ledger<S, D, K> {
         ensures { result ≡ words.are_two (disks_of self.now) }
     {
         self.books.is_pair()
+    }
+
+    /// Hands on what waits on its disks, the first one's before the second's, where it fits at the front of the room. How many bytes wait,
+    /// up to 2^64-1.
+    pub fn hand_on(&mut self, room: &mut [u8]) -> usize
+        ensures handed { IsHandedOn K.Disk (book_of self.old) (book_of self.new) room.old room.new result }
+        ensures keeps { (spelled : Artifact S D S.PublicKey S.Signature S.Certificate → List ℕ) (owner : Owner)
+            (xs : List (Artifact S D S.PublicKey S.Signature S.Certificate))
+            → KeepsRecord K.Disk spelled owner self.old xs
+            → KeepsRecord K.Disk spelled owner self.new xs }
+    {
+        self.books.hand_on(room)
     }
 
     /// Gives the disks back.

@@ -2,10 +2,10 @@
 
 ghost use Rattle.std.specs.Prelude.{◌≡◌, ℕ, List, true, false};
 ghost use Rattle.journal_books.specs.declared.disks.Disks.TheVariants.{One, Two};
-ghost use Rattle.journal_books.specs.Books.{MayBeRead, are_two};
+ghost use Rattle.journal_books.specs.Books.{IsHandedOn, MayBeRead, are_two};
 ghost use Rattle.simplex_member.specs.Layers.{current_of, finalized_of};
 ghost use Rattle.simplex_member.specs.Member.{ReadsAsKept};
-ghost use Rattle.node_steps.specs.Keeps.{AtAll, AtOwn, disks_of, has_failed};
+ghost use Rattle.node_steps.specs.Keeps.{AtAll, AtOwn, NodeKeeps, book_of, disks_of, has_failed};
 
 use journal_books::Disks;
 use journal_single::Disk;
@@ -50,6 +50,16 @@ impl<S: Scheme<D> + Drop, L: Elector<S, D>, D: Digest, K: Disk> Node<S, L, D, K>
         ensures { result ≡ are_two (disks_of self.now) }
     {
         self.core.ledger.is_pair()
+    }
+
+    /// Hands on what waits on its disks, the first one's before the second's, where it fits at the front of the room. How many bytes wait,
+    /// up to 2^64-1. The node stands where it stood.
+    pub fn hand_on(&mut self, room: &mut [u8]) -> usize
+        ensures handed { IsHandedOn K.Disk (book_of self.old) (book_of self.new) room.old room.new result }
+        ensures stands { AtAll S.Scheme L.Elector K.Disk self.old (λ f s h. NodeKeeps S.Scheme L.Elector K.Disk f s self.new h) }
+        ensures failed { has_failed self.new ≡ has_failed self.old }
+    {
+        self.core.ledger.hand_on(room)
     }
 
     /// Gives the disk back, where it stands on one, which holds what the node has recorded: a crash leaves nothing else.

@@ -6,7 +6,7 @@ use Rattle.std.proofs.lemmas.List.{append-nil, map-append}
 use Rattle.std.proofs.lemmas.List.Elements.{All-push, Contains-append_left, Contains-push}
 use Rattle.std.specs.declared.alloc.Global.{Global}
 use Rattle.std.specs.declared.vec.Vec.{Vec}
-use Rattle.journal_single.specs.Disk.{Call, Synced, MayLeave, LeavesOnly}
+use Rattle.journal_single.specs.Disk.{Account, Call, Synced, MayLeave, LeavesOnly}
 use Rattle.journal_single.specs.Journal.{IsTooLong}
 use Rattle.journal_single.specs.Record.{FitsBelow, IsForeign, end_of}
 use Rattle.journal_single.specs.Moments.{started, weaker, at_last}
@@ -433,7 +433,7 @@ module _ {M K : Type 0} (Fits : M → Type 0) (spelling : M → List ℕ) (seen 
 
 -- ---- how two disks come from before an opening to after it
 
-module _ {M K : Type 0} (Fits : M → Type 0) (spelling : M → List ℕ) (keeps : Type 0) (seen : K → List ℕ) (calls : K → List Call) (crashed : K → K → Type 0) (failed : K → ℕ) where
+module _ {M K Own : Type 0} (Fits : M → Type 0) (spelling : M → List ℕ) (keeps : Type 0) (seen : K → List ℕ) (calls : K → List Call) (crashed : K → K → Type 0) (failed : K → Account Own) where
   abbrev Came : PairEvent M → Both K → Both K → Type 0
   Came event before after = Comes Fits spelling keeps seen calls crashed failed event before after
 

@@ -1,6 +1,6 @@
 -- Generations on a disk, and which of two disks is read.
 use Rattle.std.specs.Prelude.{◌≡◌, ◌⊎◌, ◌+◌, ◌<◌, ℕ, Bool, true, false, List, ◌∷◌, length}
-use Rattle.journal_single.specs.Disk.{counted}
+use Rattle.journal_single.specs.Disk.{Account, tallied}
 use Rattle.journal_single.specs.Record.{size}
 
 -- the bytes begin with the head of this generation, and behind it stands at least a gate
@@ -45,5 +45,5 @@ IsChosen true first second = (generation : ℕ) × IsNumber first generation × 
 IsChosen false first second = (generation : ℕ) × IsNumber second generation × IsPassed false first generation
 
 -- of two disks one has failed once more, or where a call succeeded neither has
-abbrev pub OneCounted : Bool → (first new-first second new-second : ℕ) → Type 0
-OneCounted ok first new-first second new-second = ((new-first ≡ counted ok first) × (new-second ≡ second)) ⊎ ((new-first ≡ first) × (new-second ≡ counted ok second))
+abbrev pub OneCounted : {Own : Type 0} → Bool → (first new-first second new-second : Account Own) → Type 0
+OneCounted ok first new-first second new-second = ((new-first ≡ tallied ok first) × (new-second ≡ second)) ⊎ ((new-first ≡ first) × (new-second ≡ tallied ok second))

@@ -8,3 +8,4 @@ pub mod PairLooking
 pub mod ReadingLaws
 pub mod Leaving
 pub mod LeavingLaws
+pub mod StandingLaws

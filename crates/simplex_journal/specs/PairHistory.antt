@@ -7,7 +7,7 @@ use Rattle.simplex_journal.specs.declared.history.PairRequest.{PairRequest}
 use Rattle.simplex_journal.specs.declared.history.PairRequest.TheVariants.{Open, Append, Rewrite, Crash}
 use Rattle.simplex_journal.specs.declared.history.Stage.{Stage}
 use Rattle.simplex_journal.specs.declared.history.Stage.TheVariants as stage
-use Rattle.journal_single.specs.Disk.{Call, Synced, MayLeave}
+use Rattle.journal_single.specs.Disk.{Account, Call, Synced, MayLeave}
 use Rattle.journal_single.specs.Journal.{IsTooLong}
 use Rattle.journal_single.specs.Record.{end_of}
 use Rattle.simplex_journal.specs.Generation.{OneCounted}
@@ -28,7 +28,7 @@ abbrev pub IsSame : {X : Type 0} → Both X → Both X → Type 0
 IsSame before after = (after.first ≡ before.first) × (after.second ≡ before.second)
 
 -- of two disks that failed so often before and after, one has failed once more
-abbrev pub OneFailed : Both ℕ → Both ℕ → Type 0
+abbrev pub OneFailed : {Own : Type 0} → Both (Account Own) → Both (Account Own) → Type 0
 OneFailed before after = OneCounted false before.first after.first before.second after.second
 
 -- each disk was synced once, and asked nothing else
@@ -238,7 +238,7 @@ module _ {M : Type 0} where
   -- asked of them, and where an append or a rewrite was refused for anything else than their fault. An opening that was
   -- refused for anything else synced both and no more, and where it named a foreign entry, that stood on the one that is
   -- read. Their faults are counted with the event that tells them.
-  abbrev pub Comes : {K : Type 0} → (M → Type 0) → (M → List ℕ) → Type 0 → (K → List ℕ) → (K → List Call) → (K → K → Type 0) → (K → ℕ) → PairEvent M → Both K → Both K → Type 0
+  abbrev pub Comes : {K Own : Type 0} → (M → Type 0) → (M → List ℕ) → Type 0 → (K → List ℕ) → (K → List Call) → (K → K → Type 0) → (K → Account Own) → PairEvent M → Both K → Both K → Type 0
   Comes Fits spelling keeps seen calls crashed failed Crashed before after = crashed before.first after.first × crashed before.second after.second
   Comes Fits spelling keeps seen calls crashed failed (AppendNotOpen message) before after = IsSame before after
   Comes Fits spelling keeps seen calls crashed failed (RewriteNotOpen list) before after = IsSame before after
@@ -254,7 +254,7 @@ module _ {M : Type 0} where
 
   -- Two disks came by these events to what they are now: as they were given at the start, then what each event makes of
   -- the disks before it, and leaves of both where a crash comes.
-  abbrev pub CameBy : {K : Type 0} → (M → Type 0) → (M → List ℕ) → Type 0 → (K → List ℕ) → (K → List Call) → (K → K → Type 0) → (K → ℕ) → Both K → List (PairEvent M) → Both K → Type 0
+  abbrev pub CameBy : {K Own : Type 0} → (M → Type 0) → (M → List ℕ) → Type 0 → (K → List ℕ) → (K → List Call) → (K → K → Type 0) → (K → Account Own) → Both K → List (PairEvent M) → Both K → Type 0
   CameBy Fits spelling keeps seen calls crashed failed given [] now = IsSame given now
   CameBy {K} Fits spelling keeps seen calls crashed failed given (event ∷ history) now =
       (before : Both K) × CameBy Fits spelling keeps seen calls crashed failed given history before × Comes Fits spelling keeps seen calls crashed failed event before now

@@ -1,7 +1,7 @@
 //! The number of the generation that a disk holds.
 
 ghost use Rattle.std.specs.Prelude.{◌≡◌, ◌+◌, ◌-◌, ◌≤◌, ◌<◌, ◌^◌, length, get_or, drop, IfOk, OnOk, is_ok};
-ghost use Rattle.journal_single.specs.Disk.{counted};
+ghost use Rattle.journal_single.specs.Disk.{tallied};
 ghost use Rattle.journal_single.specs.Record.{size};
 ghost use Rattle.simplex_journal.specs.Generation.{IsNumber, IsOf};
 
@@ -51,7 +51,7 @@ pub fn generation_on<K: Disk>(disk: &mut K) -> Result<u32, DiskFault>
     ensures number { IfOk result (λ generation. K.keeps → IsNumber (K.seen disk.old) generation) }
     ensures seen { OnOk result (K.keeps → K.seen disk.new ≡ K.seen disk.old) }
     ensures calls { K.keeps → K.calls disk.new ≡ K.calls disk.old }
-    ensures cause { K.failed disk.new ≡ counted (is_ok result) (K.failed disk.old) }
+    ensures cause { K.failed disk.new ≡ tallied (is_ok result) (K.failed disk.old) }
 {
     let len = disk.len()?;
     if len <= HEAD {

@@ -3,7 +3,7 @@
 ghost use Rattle.std.specs.Prelude.{◌≡◌, ◌≢◌, ◌+◌, ◌-◌, ◌<◌, ◌≤◌, ◌^◌, ◌⊎◌, ◌∷◌, List, ℕ, length, map, [], All, IfErr, IfOk, OnOk, OnErr, is_ok, IsErrOf, true, false};
 ghost use Rattle.types_codec.specs.Codec.{Readable};
 ghost use Rattle.simplex_journal.specs.declared.fault.PairFault.TheVariants.{Device, Foreign, Memory};
-ghost use Rattle.journal_single.specs.Disk.{MayLeave, LeavesOnly, Synced, counted};
+ghost use Rattle.journal_single.specs.Disk.{MayLeave, LeavesOnly, Synced, tallied};
 ghost use Rattle.journal_single.specs.Record.{IsFixed, FitsBelow};
 ghost use Rattle.simplex_journal.specs.Generation.{OneCounted};
 ghost use Rattle.simplex_journal.specs.Leaving.{LeavesReading};
@@ -41,7 +41,7 @@ fn finish<K: Disk>(disk: &mut K, gate: u64, is_empty: bool) -> Result<(), DiskFa
         → IsFixed (K.seen disk.old) (K.calls disk.old)
         → IsFoundOf g (K.seen disk.old) gate bodies
         → LeavesOnly (K.calls disk.old) (K.calls disk.new) (λ image. ReadsAs image g bodies) }
-    ensures cause { K.failed disk.new ≡ counted (is_ok result) (K.failed disk.old) }
+    ensures cause { K.failed disk.new ≡ tallied (is_ok result) (K.failed disk.old) }
 {
     if is_empty {
         return begin(disk);
@@ -62,7 +62,7 @@ fn read_record<M: Read + Drop, K: Disk>(
     ensures seen { OnOk result (K.keeps → K.seen disk.new ≡ K.seen disk.old) }
     ensures seen_of_others { IfErr result (λ fault. fault ≢ Device → K.keeps → K.seen disk.new ≡ K.seen disk.old) }
     ensures calls { K.keeps → K.calls disk.new ≡ K.calls disk.old }
-    ensures device { IsErrOf result PairFault.Device → K.failed disk.new ≡ counted false (K.failed disk.old) }
+    ensures device { IsErrOf result PairFault.Device → K.failed disk.new ≡ tallied false (K.failed disk.old) }
     ensures no_fault { OnOk result (K.failed disk.new ≡ K.failed disk.old) }
     ensures no_fault_of_others { IfErr result (λ fault. fault ≢ Device → K.failed disk.new ≡ K.failed disk.old) }
     ensures foreign { IfErr result (λ fault.

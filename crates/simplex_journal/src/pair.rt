@@ -1,6 +1,6 @@
 //! The journal over two disks.
 
-ghost use Rattle.std.specs.Prelude.{◌≡◌, ◌≢◌, ◌⊎◌, ◌+◌, ◌-◌, ◌<◌, ◌≤◌, ◌^◌, ◌++◌, [], ◌∷◌, List, ℕ, length, map, All, true, false, IfOk, IfErr, OnOk, IsErrOf, is_ok};
+ghost use Rattle.std.specs.Prelude.{◌≡◌, ◌≢◌, ◌⊎◌, ◌+◌, ◌-◌, ◌<◌, ◌≤◌, ◌^◌, ◌++◌, [], ◌∷◌, List, ℕ, length, min, drop, map, All, true, false, IfOk, IfErr, OnOk, IsErrOf, is_ok};
 ghost use Rattle.types_codec.specs.Codec.{Readable};
 ghost use Rattle.simplex_journal.specs.declared.fault.PairFault.TheVariants.{Device, Exhausted, Failed, Foreign, Memory, TooLong};
 ghost use Rattle.journal_single.specs.Disk.{Call, MayLeave, Synced};
@@ -177,10 +177,38 @@ impl<M: Read + EncodeSize + Drop, K: Disk> Pair<M, K> {
 
     /// How often a call of the first disk has failed, and of the second, each up to 2^64-1, where it stays.
     pub fn failures(&self) -> (u64, u64)
-        ensures first { result.0 ≡ K.failed self.now.first }
-        ensures second { result.1 ≡ K.failed self.now.second }
+        ensures first { result.0 ≡ (K.failed self.now.first).faults }
+        ensures second { result.1 ≡ (K.failed self.now.second).faults }
     {
         (self.first.failures(), self.second.failures())
+    }
+
+    /// Hands on what waits on both disks, the first one's before the second's, where it fits at the front of the room. How many bytes wait,
+    /// up to 2^64-1.
+    pub fn hand_on(&mut self, room: &mut [u8]) -> usize
+        ensures size { result ≡ min (length (K.waits self.old.first ++ K.waits self.old.second)) (2 ^ 64 - 1) }
+        ensures hands { result ≤ length room.old → K.hands self.old.first self.new.first × K.hands self.old.second self.new.second }
+        ensures handed { result ≤ length room.old → room.new ≡ (K.waits self.old.first ++ K.waits self.old.second) ++ drop result room.old }
+        ensures no_room { length room.old < result → (self.new ≡ self.old) × (room.new ≡ room.old) }
+        ensures record { (spelling : M → List ℕ) (messages : List M)
+            → K.keeps
+            → IsPairRecord spelling K.seen K.calls self.old messages
+            → IsPairRecord spelling K.seen K.calls self.new messages }
+        ensures first { K.keeps → K.calls self.new.first ≡ K.calls self.old.first }
+        ensures second { K.keeps → K.calls self.new.second ≡ K.calls self.old.second }
+        ensures faults { (K.failed self.new.first).faults ≡ (K.failed self.old.first).faults }
+        ensures faults_of_second { (K.failed self.new.second).faults ≡ (K.failed self.old.second).faults }
+        ensures stays { self.new.failed ≡ self.old.failed }
+        ensures reads { (self.new.is_first ≡ self.old.is_first) × (self.new.generation ≡ self.old.generation) }
+    {
+        let first = self.first.waiting();
+        let size = first.saturating_add(self.second.waiting());
+        if size > room.len() {
+            return size;
+        }
+        self.first.hand_on(&mut room[..first]);
+        self.second.hand_on(&mut room[first..size]);
+        size
     }
 
     /// Whether an append or a rewrite has failed for a disk, so that each further one answers

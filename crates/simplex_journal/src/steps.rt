@@ -1,7 +1,7 @@
 //! The steps of a record on a disk, by its bytes.
 
 ghost use Rattle.std.specs.Prelude.{◌≡◌, ◌+◌, ◌<◌, ◌^◌, ◌++◌, ◌∷◌, [], List, ℕ, length, OnOk, is_ok};
-ghost use Rattle.journal_single.specs.Disk.{LeavesOnly, counted};
+ghost use Rattle.journal_single.specs.Disk.{LeavesOnly, tallied};
 ghost use Rattle.journal_single.specs.Record.{IsFixed};
 ghost use Rattle.simplex_journal.specs.Steps.{IsClosed, IsBeingBegun, IsBeingCleared, IsBeingClosed, IsBeingMarked};
 
@@ -16,7 +16,7 @@ pub fn begin<K: Disk>(disk: &mut K) -> Result<(), DiskFault>
     requires empty { K.keeps → K.seen disk.old ≡ [] }
     ensures ok { OnOk result (K.keeps → IsClosed [] (K.seen disk.new) (K.calls disk.new) 0) }
     ensures any_moment { K.keeps → IsFixed (K.seen disk.old) (K.calls disk.old) → LeavesOnly (K.calls disk.old) (K.calls disk.new) IsBeingBegun }
-    ensures cause { K.failed disk.new ≡ counted (is_ok result) (K.failed disk.old) }
+    ensures cause { K.failed disk.new ≡ tallied (is_ok result) (K.failed disk.old) }
 {
     disk.write_at(0, &[0])?;
     disk.sync()?;
@@ -34,7 +34,7 @@ pub fn clear<K: Disk>(disk: &mut K) -> Result<(), DiskFault>
     ensures any_moment { K.keeps
         → IsFixed (K.seen disk.old) (K.calls disk.old)
         → LeavesOnly (K.calls disk.old) (K.calls disk.new) (IsBeingCleared (K.seen disk.old)) }
-    ensures cause { K.failed disk.new ≡ counted (is_ok result) (K.failed disk.old) }
+    ensures cause { K.failed disk.new ≡ tallied (is_ok result) (K.failed disk.old) }
 {
     disk.cut(0)?;
     disk.sync()?;
@@ -61,7 +61,7 @@ pub fn close_gate<K: Disk>(disk: &mut K, gate: u64) -> Result<(), DiskFault>
         → K.seen disk.old ≡ base ++ end
         → gate ≡ length base
         → LeavesOnly (K.calls disk.old) (K.calls disk.new) (IsBeingClosed base end) }
-    ensures cause { K.failed disk.new ≡ counted (is_ok result) (K.failed disk.old) }
+    ensures cause { K.failed disk.new ≡ tallied (is_ok result) (K.failed disk.old) }
 {
     disk.cut(gate + 1)?;
     // The cut has to be on the disk first: behind a gate that is torn open, what was there would count.
@@ -83,7 +83,7 @@ pub fn put_marked<K: Disk>(disk: &mut K, gate: u64, bytes: &[u8], mark: u8) -> R
         → (K.seen disk.new ≡ base ++ mark ∷ bytes.now) × IsFixed (K.seen disk.new) (K.calls disk.new)) }
     ensures any_moment { (base : List ℕ) → K.keeps → IsClosed base (K.seen disk.old) (K.calls disk.old) gate
         → LeavesOnly (K.calls disk.old) (K.calls disk.new) (IsBeingMarked base bytes.now) }
-    ensures cause { K.failed disk.new ≡ counted (is_ok result) (K.failed disk.old) }
+    ensures cause { K.failed disk.new ≡ tallied (is_ok result) (K.failed disk.old) }
 {
     disk.write_at(gate + 1, bytes)?;
     // What stands behind a mark counts, so it has to be on the disk first.

@@ -1,7 +1,7 @@
 //! Writing a generation over what the disk that is not read holds.
 
 ghost use Rattle.std.specs.Prelude.{◌≡◌, ◌⊎◌, ◌∷◌, [], Bool, ℕ, OnOk, is_ok};
-ghost use Rattle.journal_single.specs.Disk.{LeavesOnly, counted};
+ghost use Rattle.journal_single.specs.Disk.{LeavesOnly, tallied};
 ghost use Rattle.journal_single.specs.Record.{IsFixed};
 ghost use Rattle.simplex_journal.specs.Generation.{IsPassed, IsPassedOrWritten};
 
@@ -22,7 +22,7 @@ pub fn write_generation<K: Disk>(disk: &mut K, bytes: &[u8]) -> Result<(), DiskF
         → IsFixed (K.seen disk.old) (K.calls disk.old)
         → IsPassed is_first (K.seen disk.old) generation
         → LeavesOnly (K.calls disk.old) (K.calls disk.new) (IsPassedOrWritten is_first generation bytes.now) }
-    ensures cause { K.failed disk.new ≡ counted (is_ok result) (K.failed disk.old) }
+    ensures cause { K.failed disk.new ≡ tallied (is_ok result) (K.failed disk.old) }
 {
     clear(disk)?;
     put_marked(disk, 0, bytes, MARK)?;

@@ -10,7 +10,7 @@ use Rattle.types_core.specs.declared.scheme.Scheme.{Ghosts}
 use Rattle.messages_certificates.specs.declared.artifact.Artifact.{Artifact}
 use Rattle.types_terms.specs.declared.elector.Elector as elector
 use Rattle.journal_single.specs.declared.disk.Disk as disk
-use Rattle.journal_single.specs.Disk.{LeavesOnly, MayLeave, counted}
+use Rattle.journal_single.specs.Disk.{Account, LeavesOnly, MayLeave, tallied}
 use Rattle.journal_single.specs.Moments.{and_then, at_last, started, weaker}
 use Rattle.journal_single.specs.Record.{IsForeign, Reads}
 use Rattle.journal_single.specs.Total.{reads_any}
@@ -256,7 +256,7 @@ on-disk {K = K} k P spelling messages old new d now over over-now is (inr leaves
     inr (subst (λ (x : Disks K). Leave k (One d) x P) over-now (subst (λ (x : Disks K). Leave k x (words.disks_of new) P) over (book_leaves k P spelling messages old new is leaves)))
 
 -- and how often that has failed
-pub failed-on : {K : Type 0} (k : disk.Ghosts K) (old new : Disks K) (d now : K) → old ≡ One d → new ≡ One now → HasFailed k old new → k.failed now ≡ counted false (k.failed d)
+pub failed-on : {K : Type 0} (k : disk.Ghosts K) (old new : Disks K) (d now : K) → old ≡ One d → new ≡ One now → HasFailed k old new → k.failed now ≡ tallied false (k.failed d)
 failed-on {K} k old new d now over over-now told = subst (λ (x : Disks K). HasFailed k (One d) x) over-now (subst (λ (x : Disks K). HasFailed k x new) over told)
 
 pub not-failed-on : {K : Type 0} (k : disk.Ghosts K) (old new : Disks K) (d now : K) → old ≡ One d → new ≡ One now → HasNotFailed k old new → k.failed now ≡ k.failed d
@@ -264,15 +264,15 @@ not-failed-on {K} k old new d now over over-now told = subst (λ (x : Disks K). 
 
 -- ---- how often the disk has failed
 
-pub steps-failures : (fault : Option NodeFault) (old new : ℕ) → (fault ≡ Some node_fault.Device → new ≡ counted false old) → ((fault ≡ Some node_fault.Device → ⊥) → new ≡ old)
-    → new ≡ counted (spares_disk fault) old
+pub steps-failures : {Own : Type 0} (fault : Option NodeFault) (old new : Account Own) → (fault ≡ Some node_fault.Device → new ≡ tallied false old) → ((fault ≡ Some node_fault.Device → ⊥) → new ≡ old)
+    → new ≡ tallied (spares_disk fault) old
 steps-failures None old new device no_device = no_device (λ e. cc e)
 steps-failures (Some node_fault.Memory) old new device no_device = no_device (λ e. cc e)
 steps-failures (Some node_fault.Failed) old new device no_device = no_device (λ e. cc e)
 steps-failures (Some node_fault.Device) old new device no_device = device refl
 
-pub opening-failures : (S D P G C : Type 0) (why : OpenFault) (old new : ℕ) → (why ≡ open_fault.Device → new ≡ counted false old) → ((why ≡ open_fault.Device → ⊥) → new ≡ old)
-    → new ≡ counted (tells_none {S = S} {D = D} {P = P} {G = G} {C = C} (NotOpened why)) old
+pub opening-failures : {Own : Type 0} (S D P G C : Type 0) (why : OpenFault) (old new : Account Own) → (why ≡ open_fault.Device → new ≡ tallied false old) → ((why ≡ open_fault.Device → ⊥) → new ≡ old)
+    → new ≡ tallied (tells_none {S = S} {D = D} {P = P} {G = G} {C = C} (NotOpened why)) old
 opening-failures S D P G C open_fault.NoKey old new device no_device = no_device (λ e. cc e)
 opening-failures S D P G C (open_fault.Config x) old new device no_device = no_device (λ e. cc e)
 opening-failures S D P G C open_fault.MomentTooLate old new device no_device = no_device (λ e. cc e)
@@ -283,6 +283,6 @@ opening-failures S D P G C open_fault.Memory old new device no_device = no_devic
 opening-failures S D P G C open_fault.Device old new device no_device = device refl
 
 -- one answer more
-pub failures-more : {S D P G C : Type 0} (failures : ℕ) (answers : List (Answered S D P G C)) (a : Answered S D P G C) → failures_behind failures (answers ++ a ∷ []) ≡ counted (tells_none a) (failures_behind failures answers)
+pub failures-more : {S D P G C Own : Type 0} (failures : Account Own) (answers : List (Answered S D P G C)) (a : Answered S D P G C) → failures_behind failures (answers ++ a ∷ []) ≡ tallied (tells_none a) (failures_behind failures answers)
 failures-more failures [] a = refl
-failures-more failures (b ∷ answers) a = failures-more (counted (tells_none b) failures) answers a
+failures-more failures (b ∷ answers) a = failures-more (tallied (tells_none b) failures) answers a

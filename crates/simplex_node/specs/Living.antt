@@ -4,7 +4,7 @@ use Rattle.types_core.specs.declared.scheme.Scheme.{Ghosts}
 use Rattle.messages_certificates.specs.declared.artifact.Artifact.{Artifact}
 use Rattle.types_terms.specs.declared.elector.Elector as elector
 use Rattle.journal_single.specs.declared.disk.Disk as disk
-use Rattle.journal_single.specs.Disk.{Call, MayLeave, counted}
+use Rattle.journal_single.specs.Disk.{Account, Call, MayLeave, tallied}
 use Rattle.journal_single.specs.Record.{Reads}
 use Rattle.simplex_member.specs.declared.action.Action.{Action}
 use Rattle.simplex_member.specs.declared.action.Reply.{Reply}
@@ -49,10 +49,10 @@ tells_none (NotOpened open_fault.Device) = false
 tells_none (NotOpened why) = true
 tells_none (Opened first answers) = spares_disk answers.fault
 
--- how often a disk has failed behind these answers, which it had so often before: once more for each that tells so
-abbrev pub failures_behind : {S D P G C : Type 0} → ℕ → List (Answered S D P G C) → ℕ
+-- what is counted of a disk behind these answers, by what was before: one fault more for each that tells so
+abbrev pub failures_behind : {S D P G C Own : Type 0} → Account Own → List (Answered S D P G C) → Account Own
 failures_behind failures [] = failures
-failures_behind failures (a ∷ answers) = failures_behind (counted (tells_none a) failures) answers
+failures_behind failures (a ∷ answers) = failures_behind (tallied (tells_none a) failures) answers
 
 -- an image reads as something that has P
 abbrev pub OnImage : (List (List ℕ) → Type 0) → List ℕ → Type 0

@@ -1,7 +1,7 @@
 //! A member's lives: its record is opened again and again, on one disk.
 
 ghost use Rattle.std.specs.Prelude.{◌≡◌, ◌⊎◌, false, All, IfErr, IfOk, [], ◌∷◌, length};
-ghost use Rattle.journal_single.specs.Disk.{LeavesOnly, counted};
+ghost use Rattle.journal_single.specs.Disk.{LeavesOnly, tallied};
 ghost use Rattle.journal_books.specs.declared.disks.Disks.TheVariants.{One};
 ghost use Rattle.journal_books.specs.Books.{are_two};
 ghost use Rattle.node_steps.specs.Keeps.{AtOwn, disks_of};
@@ -101,7 +101,7 @@ fn live_once<S: Scheme<D> + Drop, L: Elector<S, D>, D: Digest, K: Disk>(
         (λ Left. MayLeaveOnly (K.calls result.1) (Left (tried (opening ∷ []) (result.0 ∷ [])))) }
     ensures any_moment { OverLives S.Scheme L.Elector K.Disk ⟦<S as Speaks<D>>⟧.formats disk (opening ∷ [])
         (λ Left. LeavesOnly (K.calls disk) (K.calls result.1) (Left (tried (opening ∷ []) []))) }
-    ensures failures { K.failed result.1 ≡ counted (tells_none result.0) (K.failed disk) }
+    ensures failures { K.failed result.1 ≡ tallied (tells_none result.0) (K.failed disk) }
 {
     a_disk_reads_as_one_record::<Artifact<S, D>>();
     never_foreign::<S, D>();
@@ -136,7 +136,7 @@ fn live_on<S: Scheme<D> + Drop, L: Elector<S, D>, D: Digest, K: Disk>(
         → disks_of node ≡ One d
         → K.keeps
         → (K.calls result.1 ≡ K.calls d) ⊎ LeavesOnly (K.calls d) (K.calls result.1) (OnImage (IsPassed S.Scheme f s h events.items))) }
-    ensures failures { (d : K) → disks_of node ≡ One d → K.failed result.1 ≡ counted (spares_disk result.0.fault) (K.failed d) }
+    ensures failures { (d : K) → disks_of node ≡ One d → K.failed result.1 ≡ tallied (spares_disk result.0.fault) (K.failed d) }
 {
     let mut node = node;
     match run(alloc, &mut node, events) {

@@ -1,7 +1,7 @@
 use Rattle.std.proofs.Common.{ℕ, List, [], ◌∷◌, ap, arith, length, sym, ◌∙◌}
 use Rattle.std.proofs.lemmas.List.{length-append, nil_from_length}
 use Rattle.std.proofs.lemmas.List.Elements.{All-head, All-rest, All-same}
-use Rattle.journal_single.specs.Disk.{counted}
+use Rattle.journal_single.specs.Disk.{Account, tallied}
 use Rattle.simplex_node.specs.declared.living.Answered.{Answered}
 use Rattle.simplex_node.specs.declared.living.Opening.{Opening}
 use Rattle.simplex_node.specs.Living.{failures_behind, tells_none}
@@ -30,7 +30,7 @@ loop-opening-preserved g c =
     record {
       room = omega (arith, c.loop-opening.invariant.room, ap length left, c.push_reserved.ensures.len, c.push_reserved.ensures.capacity);
       each = omega (arith, c.loop-opening.invariant.each, ap length left, ap length c.push_reserved.ensures.items, length-append c.loop-opening.answers.items (c.live_once-answer.result.0 ∷ []));
-      failures = c.live_once-answer.ensures.failures ∙ ap (λ (n : ℕ). counted (tells_none c.live_once-answer.result.0) n) c.loop-opening.invariant.failures
+      failures = c.live_once-answer.ensures.failures ∙ ap (λ (n : Account g.K.Disk.Own). tallied (tells_none c.live_once-answer.result.0) n) c.loop-opening.invariant.failures
           ∙ sym (failures-more (g.K.Disk.failed c.args.disk) c.loop-opening.answers.items c.live_once-answer.result.0)
           ∙ ap (λ (l : List (Answered g.row.S.Denot g.row.D.Denot g.row.S-PublicKey.Denot g.row.S-Signature.Denot g.row.S-Certificate.Denot)). failures_behind (g.K.Disk.failed c.args.disk) l) (sym c.push_reserved.ensures.items);
       built = All-rest (λ (o : Opening g.row.S.Denot g.row.L.Denot g.row.D.Denot g.row.S-PublicKey.Denot g.row.S-Signature.Denot g.row.S-Certificate.Denot). g.L.Elector.built_for o.elector (g.S.Scheme.size o.scheme.value)) _ _ _ left c.loop-opening.invariant.built;

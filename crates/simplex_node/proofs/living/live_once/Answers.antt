@@ -1,5 +1,5 @@
 use Rattle.std.proofs.Common.{ℕ, ap, refl, ◌∙◌}
-use Rattle.journal_single.specs.Disk.{counted}
+use Rattle.journal_single.specs.Disk.{Account, tallied}
 use Rattle.journal_books.specs.declared.disks.Disks.TheVariants.{One}
 use Rattle.node_steps.specs.Keeps.{disks_of}
 use Rattle.simplex_node.specs.Living.{spares_disk}
@@ -16,7 +16,7 @@ returns-in-Ok g c = record {
   failures =
       let one = one_of (disks_of c.in-Ok.node) c.in-Ok.ensures.over_one in
       c.live_on-answers.ensures.failures one.0 one.1
-      ∙ ap (λ (n : ℕ). counted (spares_disk c.live_on-answers.result.0.fault) n) (not-failed-on g.K.Disk (One c.args.disk) (disks_of c.in-Ok.node) c.args.disk one.0 refl one.1 c.in-Ok.ensures.has_opened.no_fault);
+      ∙ ap (λ (n : Account g.K.Disk.Own). tallied (spares_disk c.live_on-answers.result.0.fault) n) (not-failed-on g.K.Disk (One c.args.disk) (disks_of c.in-Ok.node) c.args.disk one.0 refl one.1 c.in-Ok.ensures.has_opened.no_fault);
 }
 
 -- it failed
