@@ -1,38 +1,23 @@
 -- What a log tells of a disk.
-use Rattle.std.specs.Prelude.{◌+◌, ◌-◌, ℕ, List, [], ◌∷◌, ◌++◌, length, take, drop}
-use Rattle.journal_single.specs.Disk.{Call}
-use Rattle.journal_single.specs.Disk as calls
+use Rattle.std.specs.Prelude.{◌-◌, ℕ, List, [], ◌∷◌, length, drop}
+use Rattle.cli_disk.specs.Requests.{Cut, Request, Sync, Write}
 use Rattle.cli_disk.specs.declared.log.Log.{Log}
 use Rattle.cli_disk.specs.declared.log.Log.TheVariants as entry
-
--- what a read gives, and what was asked of the disk, the newest first
-pub record Contents : Type 0 where
-  pub bytes : List ℕ
-  pub calls : List Call
-
--- a disk that began with these bytes, all of them fixed
-abbrev pub begun : List ℕ → Contents
-begun bytes = record { bytes = bytes; calls = calls.Synced bytes ∷ [] }
-
--- what these bytes make of it, written from a place on
-abbrev pub written : Contents → ℕ → List ℕ → Contents
-written was at bytes = record { bytes = take at was.bytes ++ bytes ++ drop (at + length bytes) was.bytes; calls = calls.Wrote at (length bytes) ∷ was.calls }
-
--- what a cut to a length makes of it
-abbrev pub cut_to : Contents → ℕ → Contents
-cut_to was n = record { bytes = take n was.bytes; calls = calls.CutTo n ∷ was.calls }
-
--- what a sync makes of it
-abbrev pub synced : Contents → Contents
-synced was = record { bytes = was.bytes; calls = calls.Synced was.bytes ∷ was.calls }
 
 -- so many bytes at the end
 abbrev pub last : ℕ → List ℕ → List ℕ
 last n bytes = drop (length bytes - n) bytes
 
--- what all that was asked makes of it
-abbrev pub told : Log → Contents
-told (entry.Began bytes) = begun bytes.value.items
-told (entry.Wrote' p before at size asked) = written (told before) at (last size asked.value.items)
-told (entry.CutTo' p before n) = cut_to (told before) n
-told (entry.Synced' p before) = synced (told before)
+-- what the disk began with
+abbrev pub began_of : Log → List ℕ
+began_of (entry.Began bytes) = bytes.value.items
+began_of (entry.Wrote' p before at size asked) = began_of before
+began_of (entry.CutTo' p before n) = began_of before
+began_of (entry.Synced' p before) = began_of before
+
+-- what was asked since, the newest first
+abbrev pub requests_of : Log → List Request
+requests_of (entry.Began bytes) = []
+requests_of (entry.Wrote' p before at size asked) = Write at (last size asked.value.items) ∷ requests_of before
+requests_of (entry.CutTo' p before n) = Cut n ∷ requests_of before
+requests_of (entry.Synced' p before) = Sync ∷ requests_of before

@@ -6,4 +6,4 @@ mod log;
 mod requests;
 
 pub use disk::HostedDisk;
-pub use requests::{File, Requests};
+pub use requests::File;

@@ -1,7 +1,8 @@
 //! What was asked of a disk since it began.
 
-ghost use Rattle.std.specs.Prelude.{◌≡◌};
-ghost use Rattle.cli_disk.specs.Told.{begun, cut_to, last, synced, told, written};
+ghost use Rattle.std.specs.Prelude.{◌≡◌, ◌∷◌, []};
+ghost use Rattle.cli_disk.specs.Requests.{Cut, Sync, Write};
+ghost use Rattle.cli_disk.specs.Told.{began_of, last, requests_of};
 
 use std::snapshot::Snapshot;
 
@@ -21,28 +22,32 @@ pub(crate) enum Log {
 impl Log {
     /// It began with these bytes.
     pub(crate) fn began(bytes: &Vec<u8>) -> Log
-        ensures { told result ≡ begun bytes.now.items }
+        ensures began { began_of result ≡ bytes.now.items }
+        ensures asked { requests_of result ≡ [] }
     {
         Log::Began(Snapshot::of(bytes))
     }
 
     /// Behind that so many bytes were written, the last of what was asked.
     pub(crate) fn wrote(&self, at: u64, size: u64, asked: Snapshot<Vec<u8>>) -> Log
-        ensures { told result ≡ written (told self.now) at (last size asked.value.items) }
+        ensures began { began_of result ≡ began_of self.now }
+        ensures asked { requests_of result ≡ Write at (last size asked.value.items) ∷ requests_of self.now }
     {
         Log::Wrote(Snapshot::of(self), at, size, asked)
     }
 
     /// Behind that all behind a length was cut off.
     pub(crate) fn cut_to(&self, length: u64) -> Log
-        ensures { told result ≡ cut_to (told self.now) length }
+        ensures began { began_of result ≡ began_of self.now }
+        ensures asked { requests_of result ≡ Cut length ∷ requests_of self.now }
     {
         Log::CutTo(Snapshot::of(self), length)
     }
 
     /// Behind that what a read gives was fixed.
     pub(crate) fn synced(&self) -> Log
-        ensures { told result ≡ synced (told self.now) }
+        ensures began { began_of result ≡ began_of self.now }
+        ensures asked { requests_of result ≡ Sync ∷ requests_of self.now }
     {
         Log::Synced(Snapshot::of(self))
     }
