@@ -3,6 +3,7 @@ pub mod Holding
 pub mod Looked
 pub mod LookedHalves
 pub mod Opens
+pub mod Owning
 pub mod Places
 pub mod Sizes
 pub mod Unopened

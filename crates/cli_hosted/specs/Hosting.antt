@@ -10,7 +10,7 @@ use Rattle.simplex_types.specs.Plain as plain
 use Rattle.journal_single.specs.declared.disk.Disk as disk
 use Rattle.journal_books.specs.declared.disks.Disks.{Disks}
 use Rattle.journal_books.specs.declared.disks.Disks.TheVariants.{One, Two}
-use Rattle.journal_books.specs.Books.{Leave, are_two, may_rewrite}
+use Rattle.journal_books.specs.Books.{HaveSameOwn, IsHandedOn, Leave, are_two, may_rewrite}
 use Rattle.simplex_member.specs.declared.action.Reply.{Reply}
 use Rattle.simplex_member.specs.declared.fault.IoFault.{IoFault}
 use Rattle.simplex_member.specs.declared.fault.NodeFault.{NodeFault}
@@ -23,7 +23,7 @@ use Rattle.simplex_member.specs.Setup.{Setup, setup_of}
 use Rattle.node_record.specs.Ledger.{next_view}
 use Rattle.node_core.specs.Rewriting.{IsLeftByRewrite}
 use Rattle.node_steps.specs.declared.node.Node.{Node}
-use Rattle.node_steps.specs.Keeps.{AtAll, AtOwn, book_of, disks_of, has_failed}
+use Rattle.node_steps.specs.Keeps.{AtAll, AtOwn, NodeKeeps, book_of, disks_of, has_failed}
 use Rattle.node_steps.specs.Opening.{IsOpenAndSettled, MayBeLeftOpen}
 use Rattle.node_steps.specs.Rewriting.{NodeIsRewritten}
 use Rattle.node_wire.specs.Streaming.{EndsIn}
@@ -56,6 +56,7 @@ module _ {S L D P G C K : Type 0} (g : Ghosts S D P G C) (e : elector.Ghosts L S
     pub opens : IsOpenAndSettled g e k f s Readable brought on 0 node first.actions.items
     pub any_moment : k.keeps → Leave k on (disks_of node) (MayBeLeftOpen g e k f s Readable brought on 0)
     pub as_many : are_two (disks_of node) ≡ are_two on
+    pub own : HaveSameOwn k on (disks_of node)
 
 module _ (g : Ghosts plain.Committee (List ℕ) ℕ (List ℕ) Listed) (e : elector.Ghosts Rotation plain.Committee (List ℕ) ℕ (List ℕ) Listed) (k : disk.Ghosts HostedState)
     (formats : ℕ → Formats plain.Committee (List ℕ) ℕ (List ℕ) Listed) (w : PlainReply → List ℕ) where
@@ -87,6 +88,7 @@ module _ (g : Ghosts plain.Committee (List ℕ) ℕ (List ℕ) Listed) (e : elec
         EndsIn F p w q (RunsTo g e k f s h (node_of new)) (RunFails g e k f s h (node_of new)) ⊥ ended (Some events) (Some (replies_of old)) (Some (replies_of new)))
     pub any_moment : AtOwn g e k formats (node_of old) (λ f s h. k.keeps → LeavesPassed g f s k F p h (Some events) (book_of (node_of old)) (book_of (node_of new)))
     pub failed : has_failed (node_of old) ≡ true → (node_of new ≡ node_of old) × (replies_of new ≡ replies_of old)
+    pub own : HaveSameOwn k (disks_of (node_of old)) (disks_of (node_of new))
 
   -- the record was rewritten so that it begins behind this view, the last that is final, wherever it begins lower and can be rewritten; or
   -- nothing was done; or that failed. What was asked of the disks meanwhile leaves, wherever it breaks off, the record from before or the
@@ -99,6 +101,15 @@ module _ (g : Ghosts plain.Committee (List ℕ) ℕ (List ℕ) Listed) (e : elec
     pub refused : has_failed (node_of old) ≡ true → IsErrOf ended Failed × (node_of new ≡ node_of old)
     pub only_failed : IsErrOf ended Failed → has_failed (node_of old) ≡ true
     pub any_moment : AtOwn g e k formats (node_of old) (λ f s h. NoneDue g f s h → k.keeps → Leave k (disks_of (node_of old)) (disks_of (node_of new)) (IsLeftByRewrite g f s h))
+    pub replies : replies_of new ≡ replies_of old
+    pub own : HaveSameOwn k (disks_of (node_of old)) (disks_of (node_of new))
+
+  -- what waited on the disks was handed on, the first one's before the second's, and stands at the front of the room, or doesn't fit and waits on.
+  -- The node stands where it stood, and its replies wait on
+  pub record HasHandedOn (old : Session) (room filled : List ℕ) (size : ℕ) (new : Session) : Type 0 where
+    pub handed : IsHandedOn k (book_of (node_of old)) (book_of (node_of new)) room filled size
+    pub stands : AtAll g e k (node_of old) (λ f s h. NodeKeeps g e k f s (node_of new) h)
+    pub failed : has_failed (node_of new) ≡ has_failed (node_of old)
     pub replies : replies_of new ≡ replies_of old
 
   -- these are the view that the node is in, and the last that is final

@@ -1,5 +1,5 @@
 -- What is seen of a member's node between two calls.
-use Rattle.std.specs.Prelude.{ℕ, List}
+use Rattle.std.specs.Prelude.{ℕ, Bool, List}
 use Rattle.types_core.specs.declared.attestation.Attestation.{Attestation}
 use Rattle.types_terms.specs.Rotation.{Rotation}
 use Rattle.simplex_types.specs.Plain.{Committee}
@@ -23,6 +23,10 @@ Hosted = Node Committee Rotation (List ℕ) HostedState ℕ (List ℕ) Listed
 -- the node
 abbrev pub node_of : Session → Hosted
 node_of state = state.node
+
+-- whether the node was asked something since its requests were taken last
+abbrev pub is_asked : Session → Bool
+is_asked state = state.asked
 
 -- its replies that were not taken yet, one behind another
 abbrev pub replies_of : Session → List ℕ

@@ -5,7 +5,7 @@ ghost use Rattle.simplex_member.specs.declared.fault.IoFault.{IoFault};
 ghost use Rattle.simplex_member.specs.declared.fault.NodeFault.{NodeFault};
 ghost use Rattle.node_wire.specs.Streaming.{spelled};
 ghost use Rattle.cli_settings.specs.declared.setting.Settings.{Settings};
-ghost use Rattle.cli_hosted.specs.Hosting.{HasAnswered, IsBegunAs, IsBegunBy, IsIn, IsShortened};
+ghost use Rattle.cli_hosted.specs.Hosting.{HasAnswered, HasHandedOn, IsBegunAs, IsBegunBy, IsIn, IsShortened};
 ghost use Rattle.cli_hosted.specs.declared.session.Session.{Session};
 
 use cli_disk::HostedDisk;
@@ -29,6 +29,9 @@ pub trait Promises {
 
     /// A rewrite of the record came to this.
     ghost shortened: { Session → Result (Option ℕ) NodeFault → Session → Type 0 };
+
+    /// What waited to be carried out by the host was handed on into a room.
+    ghost handed: { Session → List ℕ → List ℕ → ℕ → Session → Type 0 };
 
     /// The view that the node is in, and the last that is final.
     ghost is_in: { Session → ℕ → ℕ → Type 0 };
@@ -55,6 +58,11 @@ impl Promises for Promised {
         (⟦<Sha256Digest as Read>⟧.reading 65535) };
 
     ghost shortened = { IsShortened ⟦<PlainScheme as Scheme<Sha256Digest>>⟧ ⟦<RoundRobinElector as Elector<PlainScheme, Sha256Digest>>⟧
+        ⟦<HostedDisk as Disk>⟧ ⟦<PlainScheme as Speaks<Sha256Digest>>⟧.formats
+        (spelled ⟦<PlainKey as Write>⟧.spelling ⟦<Sha256Digest as Write>⟧.spelling ⟦<PlainSignature as Write>⟧.spelling
+        ⟦<AttestationList<PlainSignature> as Write>⟧.spelling) };
+
+    ghost handed = { HasHandedOn ⟦<PlainScheme as Scheme<Sha256Digest>>⟧ ⟦<RoundRobinElector as Elector<PlainScheme, Sha256Digest>>⟧
         ⟦<HostedDisk as Disk>⟧ ⟦<PlainScheme as Speaks<Sha256Digest>>⟧.formats
         (spelled ⟦<PlainKey as Write>⟧.spelling ⟦<Sha256Digest as Write>⟧.spelling ⟦<PlainSignature as Write>⟧.spelling
         ⟦<AttestationList<PlainSignature> as Write>⟧.spelling) };

@@ -11,10 +11,10 @@ ghost use Rattle.simplex_member.specs.declared.fault.IoFault.{IoFault as Ending}
 ghost use Rattle.simplex_member.specs.declared.fault.NodeFault.{NodeFault as Failure};
 ghost use Rattle.simplex_member.specs.declared.fault.OpenFault.TheVariants as open_fault;
 ghost use Rattle.cli_hosted.specs.Held.{held_by};
-ghost use Rattle.cli_hosted.specs.Sessions.{node_of, replies_of};
+ghost use Rattle.cli_hosted.specs.Sessions.{is_asked, node_of, replies_of};
 ghost use Rattle.cli_hosted.specs.declared.session.Session.{Session as Kept};
 ghost use Rattle.cli_hosted.specs.Pairs.{AreBarredAt, AreBarredBy, AreLookedAt, AreLookedAtBy, AreTornAt, AreTornBy, BeginsAsNone};
-ghost use Rattle.cli_calls.specs.Told.{AreTaken, IsPut, Names, WaitOn};
+ghost use Rattle.cli_calls.specs.Told.{AreTaken, Names, WaitOn};
 ghost use Rattle.cli_hosted.specs.Statuses.{status_number};
 ghost use Rattle.cli_hosted.specs.Serving.{IsLookedAt, IsLookedAtBy, IsTornAt, IsTornBy, barred_place, barred_status, ending_status, rewrite_place, rewrite_status, run_place, run_status, unopened_place, unopened_status, unstepped_status};
 ghost use Rattle.cli_hosted.specs.declared.status.Status.TheVariants.{Argument, Device, Done, Failed, Foreign, Invalid, Memory, NoRecord, Refused, Room, Torn};
@@ -300,11 +300,13 @@ pub fn stepped(alloc: Global, node: &mut Handle, events: &[u8], found: &mut Foun
 }
 
 /// Rewrites the node's record, where there is something to rewrite: then the view is named behind which it begins. What that asks of
-/// the host waits as behind a step.
+/// the host waits as behind a step. What the host was asked before has to be taken.
 pub fn rewritten(alloc: Global, node: &mut Handle, found: &mut Found) -> Status
     ensures shortened { IfSome (held_by node.old) (λ old.
-        (new : Kept) × (ended : Result (Option ℕ) Failure) × (held_by node.new ≡ Some new) × ⟦<Promised as Promises>⟧.shortened old ended new
+        is_asked old ≡ false
+        → (new : Kept) × (ended : Result (Option ℕ) Failure) × (held_by node.new ≡ Some new) × ⟦<Promised as Promises>⟧.shortened old ended new
         × (result ≡ rewrite_status ended) × Names found.new.named found.new.place (rewrite_place ended)) }
+    ensures asked { IfSome (held_by node.old) (λ old. is_asked old ≡ true → (result ≡ Argument) × (held_by node.new ≡ held_by node.old)) }
     ensures dead { node.old.live ≢ 1 → (result ≡ Argument) × (node.new.live ≡ 0) }
     ensures live { node.old.live ≡ 1 → node.new.live ≡ 1 }
     ensures answers { (result ≡ Done) ⊎ ((result ≡ Memory) ⊎ ((result ≡ Argument) ⊎ ((result ≡ Device) ⊎ (result ≡ Failed)))) }
@@ -313,31 +315,37 @@ pub fn rewritten(alloc: Global, node: &mut Handle, found: &mut Found) -> Status
     let Some(mut session) = node.taken(alloc) else {
         return Status::Argument;
     };
+    if session.is_asked() {
+        *node = Handle::of(session);
+        return Status::Argument;
+    }
     let ended = session.rewrite();
     *node = Handle::of(session);
     shortened(ended, found)
 }
 
-/// Takes what the host is asked, where it fits at the front of the room.
+/// Takes what the host is asked, the first file's before the second's and of each the oldest first, where it fits at the front of the room.
 pub fn requests_taken(
     alloc: Global,
     node: &mut Handle,
     room: &mut [u8],
     found: &mut Found,
 ) -> Status
-    ensures held { held_by node.new ≡ held_by node.old }
+    ensures handed { IfSome (held_by node.old) (λ old.
+        (new : Kept) × (held_by node.new ≡ Some new) × ⟦<Promised as Promises>⟧.handed old room.old room.new found.new.length new) }
+    ensures taken { IfSome (held_by node.new) (λ new. result ≡ Done → is_asked new ≡ false) }
     ensures dead { node.old.live ≢ 1 → (result ≡ Argument) × (node.new.live ≡ 0) }
     ensures live { node.old.live ≡ 1 → node.new.live ≡ 1 }
     ensures answers { (result ≡ Done) ⊎ ((result ≡ Argument) ⊎ (result ≡ Room)) }
-    ensures done { result ≡ Done → (asked : List ℕ) × IsPut asked room.old room.new × (found.new.length ≡ length asked) }
+    ensures done { result ≡ Done → found.new.length ≤ length room.old }
     ensures no_room { result ≡ Room → length room.old < found.new.length }
     ensures unwritten { result ≢ Done → room.new ≡ room.old }
     ensures unnamed { result ≢ Argument → found.new.named ≡ 0 }
 {
-    let Some(session) = node.taken(alloc) else {
+    let Some(mut session) = node.taken(alloc) else {
         return Status::Argument;
     };
-    let fits = session.requests().take(room, found);
+    let fits = session.take_requests(room, found);
     *node = Handle::of(session);
     Status::fitted(fits)
 }

@@ -10,7 +10,7 @@ ghost use Rattle.cli_opening.specs.Members.{AreLeaders, committee_of};
 ghost use Rattle.cli_hosted.specs.Hosting.{AreFresh, IsBegunOver};
 ghost use Rattle.cli_hosted.specs.Pairs.{IsUnopenedAt, IsUnopenedBy};
 ghost use Rattle.journal_books.specs.declared.disks.Disks.{Disks};
-ghost use Rattle.journal_books.specs.Books.{Leave, may_rewrite};
+ghost use Rattle.journal_books.specs.Books.{HaveSameOwn, IsHandedOn, Leave, may_rewrite};
 ghost use Rattle.simplex_member.specs.declared.fault.NodeFault.TheVariants.{Failed};
 ghost use Rattle.simplex_member.specs.declared.fault.OpenFault.TheVariants as open_fault;
 ghost use Rattle.simplex_member.specs.Member.{NoneDue};
@@ -18,7 +18,7 @@ ghost use Rattle.simplex_member.specs.Recorded.{kept_of};
 ghost use Rattle.simplex_member.specs.Setup.{brought_by, setup_of};
 ghost use Rattle.node_core.specs.Rewriting.{IsLeftByRewrite};
 ghost use Rattle.node_record.specs.Ledger.{next_view};
-ghost use Rattle.node_steps.specs.Keeps.{AtOwn, book_of, disks_of, has_failed};
+ghost use Rattle.node_steps.specs.Keeps.{AtAll, AtOwn, NodeKeeps, book_of, disks_of, has_failed};
 ghost use Rattle.node_steps.specs.Opening.{IsUnopened};
 ghost use Rattle.node_steps.specs.Rewriting.{NodeIsRewritten};
 ghost use Rattle.simplex_cli.specs.Settings.{program_committee, program_config, program_rotation};
@@ -28,7 +28,7 @@ ghost use Rattle.types_terms.specs.Rotation.{Rotation};
 
 use crate::promises::{Promised, Promises};
 use cli_calls::{Found, taken};
-use cli_disk::{File, HostedDisk, Requests};
+use cli_disk::{File, HostedDisk};
 use cli_settings::Settings;
 use journal_books::Disks;
 use journal_single::Disk;
@@ -50,10 +50,11 @@ use voter_rules::config::Config;
 /// A member's node over disks that a host keeps.
 type Hosted = Node<PlainScheme, RoundRobinElector, Sha256Digest, HostedDisk>;
 
-/// A member's node, what it asks of the host that keeps its record, and the replies that were not taken yet.
+/// A member's node, whose disks hold what it asks of the host that keeps its record; whether it was called since that was taken last; and
+/// the replies that were not taken yet.
 pub(crate) struct Session {
     node: Hosted,
-    requests: Requests,
+    asked: bool,
     replies: Vec<u8>,
 }
 
@@ -62,7 +63,7 @@ impl Drop for Session {
     fn drop(self) {
         let Session {
             node,
-            requests: _,
+            asked: _,
             replies: _,
         } = self;
         drop(node.into_disks());
@@ -83,12 +84,12 @@ impl Session {
         ensures begun { IfOk result (λ it. ⟦<Promised as Promises>⟧.begun_as member members stored.now (option_copied second.entry) it.value) }
         ensures unopened { IfErr result (IsUnopenedAt member members stored.now (option_copied second.entry)) }
     {
-        let Ok((disks, requests)) = hosted(alloc, stored, second) else {
+        let Ok(disks) = hosted(alloc, stored, second) else {
             return Err(OpenFault::Memory);
         };
         let mut replies = Vec::new(alloc);
         let node = set_up(alloc, members, member, disks, &mut replies);
-        held(alloc, node, requests, replies)
+        held(alloc, node, replies)
     }
 
     /// The same, set up by these settings.
@@ -102,31 +103,54 @@ impl Session {
         ensures begun { IfOk result (λ it. ⟦<Promised as Promises>⟧.begun_by settings.now stored.now (option_copied second.entry) it.value) }
         ensures unopened { IfErr result (IsUnopenedBy settings.now stored.now (option_copied second.entry)) }
     {
-        let Ok((disks, requests)) = hosted(alloc, stored, second) else {
+        let Ok(disks) = hosted(alloc, stored, second) else {
             return Err(OpenFault::Memory);
         };
         let mut replies = Vec::new(alloc);
         let node = set_up_by(alloc, settings, disks, &mut replies);
-        held(alloc, node, requests, replies)
+        held(alloc, node, replies)
     }
 
     /// Answers events, one behind another; the replies are put behind those that were not taken yet.
     pub(crate) fn step(&mut self, alloc: Global, events: &[u8]) -> Result<(), IoFault>
         ensures { ⟦<Promised as Promises>⟧.answered self.old events.now result self.new }
     {
+        self.asked = true;
         go_on(alloc, &mut self.node, events, &mut self.replies)
     }
 
-    /// Rewrites the record, where there is something to rewrite, and tells the view behind which it begins then.
-    pub(crate) fn rewrite(&mut self) -> Result<Option<u64>, NodeFault>
-        ensures { ⟦<Promised as Promises>⟧.shortened self.old result self.new }
+    /// Whether it was called since what the host is asked was taken last.
+    pub(crate) fn is_asked(&self) -> bool
+        ensures { result ≡ self.now.asked }
     {
+        self.asked
+    }
+
+    /// Rewrites the record, where there is something to rewrite, and tells the view behind which it begins then. What the host was asked
+    /// before has to be taken: the rewrite asks of the other file.
+    pub(crate) fn rewrite(&mut self) -> Result<Option<u64>, NodeFault>
+        requires { self.old.asked ≡ false }
+        ensures shortened { ⟦<Promised as Promises>⟧.shortened self.old result self.new }
+        ensures asked { self.new.asked ≡ true }
+    {
+        self.asked = true;
         shorten(&mut self.node)
     }
 
-    /// What the host is asked to do.
-    pub(crate) fn requests(&self) -> &Requests {
-        &self.requests
+    /// Takes what the host is asked to do, where it fits at the front of the room, and tells its size. Whether it fits.
+    pub(crate) fn take_requests(&mut self, room: &mut [u8], found: &mut Found) -> bool
+        ensures handed { ⟦<Promised as Promises>⟧.handed self.old room.old room.new found.new.length self.new }
+        ensures fits { result ≡ true → (found.new.length ≤ length room.old) × (self.new.asked ≡ false) }
+        ensures no_room { result ≡ false → (length room.old < found.new.length) × (self.new.asked ≡ self.old.asked) }
+        ensures unnamed { found.new.named ≡ 0 }
+    {
+        let size = hand_on(&mut self.node, room);
+        found.tell(size, None);
+        if size > room.len() {
+            return false;
+        }
+        self.asked = false;
+        true
     }
 
     /// Takes the replies that wait, where they fit at the front of the room, and tells their size. Whether they fit.
@@ -149,35 +173,28 @@ impl Session {
     }
 }
 
-/// The disk over the bytes of a file, or the two over those of both, and what they ask, by one list.
+/// The disk over the bytes of a file, or the two over those of both.
 fn hosted(
     alloc: Global,
     stored: &[u8],
     second: Option<&[u8]>,
-) -> Result<(Disks<HostedDisk>, Requests), AllocError>
-    ensures { IfOk result (λ r. AreFresh stored.now (option_copied second.entry) r.0) }
+) -> Result<Disks<HostedDisk>, AllocError>
+    ensures { IfOk result (AreFresh stored.now (option_copied second.entry)) }
 {
-    let requests = Requests::new(alloc)?;
-    let first = disk_over(alloc, File::First, stored, &requests)?;
+    let first = disk_over(alloc, File::First, stored)?;
     let Some(second) = second else {
-        return Ok((Disks::One(first), requests));
+        return Ok(Disks::One(first));
     };
-    let second = disk_over(alloc, File::Second, second, &requests)?;
-    Ok((Disks::Two(first, second), requests))
+    let second = disk_over(alloc, File::Second, second)?;
+    Ok(Disks::Two(first, second))
 }
 
-/// The disk over the bytes of this file, which asks by this list.
-fn disk_over(
-    alloc: Global,
-    file: File,
-    stored: &[u8],
-    requests: &Requests,
-) -> Result<HostedDisk, AllocError>
+/// The disk over the bytes of this file.
+fn disk_over(alloc: Global, file: File, stored: &[u8]) -> Result<HostedDisk, AllocError>
     ensures { IfOk result (IsFresh file stored.now) }
 {
-    let shared = requests.shared()?;
     let stored = Vec::from_slice(alloc, stored)?;
-    Ok(HostedDisk::over(alloc, file, stored, shared))
+    Ok(HostedDisk::over(alloc, file, stored))
 }
 
 /// A value in a box.
@@ -194,7 +211,6 @@ fn boxed<T: Drop>(alloc: Global, value: T) -> Result<Box<T>, OpenFault>
 fn held(
     alloc: Global,
     node: Result<Hosted, OpenFault>,
-    requests: Requests,
     replies: Vec<u8>,
 ) -> Result<Box<Session>, OpenFault>
     ensures held { IfOk result (λ it. (node ≡ Ok it.value.node) × (it.value.replies.items ≡ replies.items)) }
@@ -205,7 +221,7 @@ fn held(
             alloc,
             Session {
                 node,
-                requests,
+                asked: true,
                 replies,
             },
         ),
@@ -329,6 +345,7 @@ fn go_on<S: Scheme<D> + Drop, L: Elector<S, D>, D: Digest, K: Disk>(
     ensures any_moment { AtOwn S.Scheme L.Elector K.Disk ⟦<S as Speaks<D>>⟧.formats node.old (λ f s h.
         K.keeps → LeavesPassed S.Scheme f s K.Disk D.fits D.spelling h (Some events.now) (book_of node.old) (book_of node.new)) }
     ensures failed { has_failed node.old ≡ true → (node.new ≡ node.old) × (replies.new.items ≡ replies.old.items) }
+    ensures own { HaveSameOwn K.Disk (disks_of node.old) (disks_of node.new) }
 {
     let mut input = events;
     let mut output = CountedWriter::new(mem::replace(replies, Vec::new(alloc)));
@@ -354,10 +371,23 @@ fn shorten<S: Scheme<D> + Drop, L: Elector<S, D>, D: Digest, K: Disk>(
     ensures only_failed { IsErrOf result Failed → has_failed node.old ≡ true }
     ensures any_moment { AtOwn S.Scheme L.Elector K.Disk ⟦<S as Speaks<D>>⟧.formats node.old (λ f s h.
         NoneDue S.Scheme f s h → K.keeps → Leave K.Disk (disks_of node.old) (disks_of node.new) (IsLeftByRewrite S.Scheme f s h)) }
+    ensures own { HaveSameOwn K.Disk (disks_of node.old) (disks_of node.new) }
 {
     match node.rewrite() {
         Ok(Some(view)) => Ok(Some(view.get())),
         Ok(None) => Ok(None),
         Err(fault) => Err(fault),
     }
+}
+
+/// Hands on what waits on a node's disks, the first one's before the second's, where it fits at the front of the room. How many bytes wait.
+fn hand_on<S: Scheme<D> + Drop, L: Elector<S, D>, D: Digest, K: Disk>(
+    node: &mut Node<S, L, D, K>,
+    room: &mut [u8],
+) -> usize
+    ensures handed { IsHandedOn K.Disk (book_of node.old) (book_of node.new) room.old room.new result }
+    ensures stands { AtAll S.Scheme L.Elector K.Disk node.old (λ f s h. NodeKeeps S.Scheme L.Elector K.Disk f s node.new h) }
+    ensures failed { has_failed node.new ≡ has_failed node.old }
+{
+    node.hand_on(room)
 }

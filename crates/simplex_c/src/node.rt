@@ -9,8 +9,8 @@ ghost use Rattle.cli_opening.specs.declared.looking.Barred.TheVariants as barred
 ghost use Rattle.cli_hosted.specs.Held.{held_by};
 ghost use Rattle.cli_hosted.specs.Pairs.{AreBarredAt, AreLookedAt, AreTornAt, BeginsAsNone};
 ghost use Rattle.cli_hosted.specs.Serving.{IsLookedAt, IsTornAt, asks, rewrite_place, rewrite_status, run_place, run_status};
-ghost use Rattle.cli_hosted.specs.Sessions.{node_of, replies_of};
-ghost use Rattle.cli_calls.specs.Told.{AreTaken, IsPut, Names, WaitOn};
+ghost use Rattle.cli_hosted.specs.Sessions.{is_asked, node_of, replies_of};
+ghost use Rattle.cli_calls.specs.Told.{AreTaken, Names, WaitOn};
 ghost use Rattle.cli_hosted.specs.Statuses.{status_number};
 ghost use Rattle.cli_hosted.specs.declared.session.Session.{Session as Kept};
 
@@ -136,7 +136,8 @@ pub extern "C" fn voumlis_proved_node_step(
 /// Rewrites the record of a node, so that it begins with the last finalization; what that asks of the host waits as behind a step.
 ///
 /// Answers 0, with the view of that finalization as the place, or with none where nothing was to be rewritten, as over one file; 1 where
-/// memory ran out; 2 where no node is open; 9 where the host could not be asked; and 10 where a step failed before.
+/// memory ran out; 2 where no node is open, or it was called since its requests were taken last; 9 where the host could not be asked; and 10
+/// where a step failed before.
 #[unsafe(no_mangle)]
 pub extern "C" fn voumlis_proved_node_rewrite(
     alloc: Global,
@@ -144,8 +145,10 @@ pub extern "C" fn voumlis_proved_node_rewrite(
     found: &mut Found,
 ) -> u32
     ensures shortened { IfSome (held_by node.old) (λ old.
-        (new : Kept) × (ended : Result (Option ℕ) NodeFault) × (held_by node.new ≡ Some new) × ⟦<Promised as Promises>⟧.shortened old ended new
+        is_asked old ≡ false
+        → (new : Kept) × (ended : Result (Option ℕ) NodeFault) × (held_by node.new ≡ Some new) × ⟦<Promised as Promises>⟧.shortened old ended new
         × (result ≡ status_number (rewrite_status ended)) × Names found.new.named found.new.place (rewrite_place ended)) }
+    ensures asked { IfSome (held_by node.old) (λ old. is_asked old ≡ true → (result ≡ 2) × (held_by node.new ≡ held_by node.old)) }
     ensures dead { node.old.live ≢ 1 → (result ≡ 2) × (node.new.live ≡ 0) }
     ensures live { node.old.live ≡ 1 → node.new.live ≡ 1 }
     ensures unnamed { result ≢ 0 → result ≢ 2 → found.new.named ≡ 0 }
@@ -154,7 +157,8 @@ pub extern "C" fn voumlis_proved_node_rewrite(
     rewritten(alloc, node, found).number()
 }
 
-/// Takes what the host is asked to do with the record, and tells its size.
+/// Takes what the host is asked to do with the record, and tells its size: what is asked of the first file and then of the second, of each
+/// the oldest first.
 ///
 /// Answers 0 where `room` begins with it, and it is asked no more; 2 where no node is open; and 3 where there is no room for it.
 #[unsafe(no_mangle)]
@@ -164,10 +168,12 @@ pub extern "C" fn voumlis_proved_node_requests(
     room: &mut [u8],
     found: &mut Found,
 ) -> u32
-    ensures held { held_by node.new ≡ held_by node.old }
+    ensures handed { IfSome (held_by node.old) (λ old.
+        (new : Kept) × (held_by node.new ≡ Some new) × ⟦<Promised as Promises>⟧.handed old room.old room.new found.new.length new) }
+    ensures taken { IfSome (held_by node.new) (λ new. result ≡ 0 → is_asked new ≡ false) }
     ensures dead { node.old.live ≢ 1 → (result ≡ 2) × (node.new.live ≡ 0) }
     ensures live { node.old.live ≡ 1 → node.new.live ≡ 1 }
-    ensures done { result ≡ 0 → (asked : List ℕ) × IsPut asked room.old room.new × (found.new.length ≡ length asked) }
+    ensures done { result ≡ 0 → found.new.length ≤ length room.old }
     ensures no_room { result ≡ 3 → length room.old < found.new.length }
     ensures unwritten { result ≢ 0 → room.new ≡ room.old }
     ensures unnamed { result ≢ 2 → found.new.named ≡ 0 }

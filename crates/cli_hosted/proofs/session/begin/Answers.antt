@@ -1,4 +1,5 @@
 use Rattle.std.proofs.Common.{ap, sym}
+use Rattle.journal_books.specs.BooksLaws.{same_own}
 use Rattle.cli_hosted.proofs.Unopened.{let_go}
 use Rattle.cli_hosted.proofs.session.begin.Goals as goal
 
@@ -15,6 +16,7 @@ returns-in-Ok-written-clause-begun g c =
         opens = opened.5;
         any_moment = c.in-Ok.ensures.has_opened.any_moment opened.0 opened.2;
         as_many = c.in-Ok.ensures.as_many;
+        own = same_own g.K.Disk _ _ c.in-Ok.ensures.has_opened.no_fault;
       },
     )
 
