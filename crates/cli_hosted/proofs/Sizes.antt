@@ -37,19 +37,27 @@ truth_short : (b : Bool) → length (truth_spelling b) ≤ 1
 truth_short false = omega arith
 truth_short true = omega arith
 
+-- of two parts
+two_parts : (first rest : List ℕ) (a b : ℕ) → length first ≤ a → length rest ≤ b → length (first ++ rest) ≤ a + b
+two_parts first rest a b short small = omega (arith, length-append first rest, short, small)
+
+vote_short : (p : Proposal (List ℕ)) (a : Attestation (List ℕ)) → proposal_fits (λ d. length d ≡ 32) p → attestation_fits (λ s. length s ≡ 32) a
+    → length (proposal_spelling (λ d. d) p ++ attestation_spelling (λ s. s) a) ≤ 62 + 37
+vote_short p a fits own = two_parts (proposal_spelling (λ d. d) p) (attestation_spelling (λ s. s) a) 62 37 (proposal_short p fits) (attestation_short a own)
+
+certified_short : (p : Proposal (List ℕ)) (listed : List (Attestation (List ℕ))) → proposal_fits (λ d. length d ≡ 32) p → list_fits (λ s. length s ≡ 32) listed → list_within 65535 listed
+    → length (proposal_spelling (λ d. d) p ++ list_spelling (λ s. s) listed) ≤ 62 + 2424800
+certified_short p listed fits lists within = two_parts (proposal_spelling (λ d. d) p) (list_spelling (λ s. s) listed) 62 2424800 (proposal_short p fits) (listed_short listed lists within)
+
 pub entry_short : (x : Entry) → IsEntry x → length (entry_spelling x) < 2 ^ 32 - 1
 unfolding artifact_spelling artifact_tag artifact_body artifact_fits artifact_within certificate_spelling certificate_fits nullification_spelling nullification_fits
-entry_short (artifact.Notarize v) (fits, within) =
-    omega (arith, length-append (proposal_spelling (λ d. d) v.proposal) (attestation_spelling (λ s. s) v.attestation), proposal_short v.proposal fits.0, attestation_short v.attestation fits.1)
-entry_short (artifact.Notarization c) (fits, within) =
-    omega (arith, length-append (proposal_spelling (λ d. d) c.proposal) (list_spelling (λ s. s) c.certificate), proposal_short c.proposal fits.0, listed_short c.certificate fits.1 within)
+entry_short (artifact.Notarize v) (fits, within) = omega (arith, vote_short v.proposal v.attestation fits.0 fits.1)
+entry_short (artifact.Notarization c) (fits, within) = omega (arith, certified_short c.proposal c.certificate fits.0 fits.1 within)
 entry_short (artifact.Certification round ok) (fits, within) =
-    omega (arith, length-append (round_spelling round) (truth_spelling ok), round_short round fits.0, truth_short ok)
+    omega (arith, two_parts (round_spelling round) (truth_spelling ok) 20 1 (round_short round fits.0) (truth_short ok))
 entry_short (artifact.Nullify v) (fits, within) =
-    omega (arith, length-append (round_spelling v.round) (attestation_spelling (λ s. s) v.attestation), round_short v.round fits.0, attestation_short v.attestation fits.1)
+    omega (arith, two_parts (round_spelling v.round) (attestation_spelling (λ s. s) v.attestation) 20 37 (round_short v.round fits.0) (attestation_short v.attestation fits.1))
 entry_short (artifact.Nullification c) (fits, within) =
-    omega (arith, length-append (round_spelling c.round) (list_spelling (λ s. s) c.certificate), round_short c.round fits.0, listed_short c.certificate fits.1 within)
-entry_short (artifact.Finalize v) (fits, within) =
-    omega (arith, length-append (proposal_spelling (λ d. d) v.proposal) (attestation_spelling (λ s. s) v.attestation), proposal_short v.proposal fits.0, attestation_short v.attestation fits.1)
-entry_short (artifact.Finalization c) (fits, within) =
-    omega (arith, length-append (proposal_spelling (λ d. d) c.proposal) (list_spelling (λ s. s) c.certificate), proposal_short c.proposal fits.0, listed_short c.certificate fits.1 within)
+    omega (arith, two_parts (round_spelling c.round) (list_spelling (λ s. s) c.certificate) 20 2424800 (round_short c.round fits.0) (listed_short c.certificate fits.1 within))
+entry_short (artifact.Finalize v) (fits, within) = omega (arith, vote_short v.proposal v.attestation fits.0 fits.1)
+entry_short (artifact.Finalization c) (fits, within) = omega (arith, certified_short c.proposal c.certificate fits.0 fits.1 within)

@@ -73,7 +73,7 @@ module _ {S L D P G C K : Type 0} (g : Ghosts S D P G C) (e : elector.Ghosts L S
     told_later = λ later. opened.none_early;
     foreign = λ place is keeps. absurd cc;
     contradiction = λ position index own is. absurd cc;
-    untouched = λ of keeps. absurd of;
+    untouched = λ such keeps. absurd such;
     device = λ is. absurd cc;
     no_device = λ other. opened.no_fault;
     any_moment = opened.any_moment;
@@ -84,9 +84,9 @@ beyond : (bytes head : List ℕ) (generation : ℕ) → IsHead head generation �
 beyond bytes head generation (inl (none, zero)) (rest, inl is) = absurd (omega (arith, zero, is.from_one))
 beyond bytes head generation (inl (none, zero)) (rest, inr (plain, first, same)) =
     inr (plain, zero, ap (λ (h : List ℕ). drop (length h) bytes) none)
-beyond bytes head generation (inr (a, b, c, d, is, number, some)) (rest, inl of) =
+beyond bytes head generation (inr (a, b, c, d, is, number, some)) (rest, inl here) =
     let nine : drop (length head) bytes ≡ drop 9 bytes = ap (λ (h : List ℕ). drop (length h) bytes) is in
-    inl (subst (λ (l : List ℕ). IsGeneration bytes generation l) (sym (nine ∙ ap (λ (l : List ℕ). drop 9 l) of.split)) of)
+    inl (subst (λ (l : List ℕ). IsGeneration bytes generation l) (sym (nine ∙ ap (λ (l : List ℕ). drop 9 l) here.split)) here)
 beyond bytes head generation (inr (a, b, c, d, is, number, some)) (rest, inr (plain, zero, same)) = absurd (omega (arith, zero, some))
 
 -- and one that is read stands behind so many bytes

@@ -199,7 +199,8 @@ fn disk_over(alloc: Global, file: File, stored: &[u8]) -> Result<HostedDisk, All
 
 /// A value in a box.
 fn boxed<T: Drop>(alloc: Global, value: T) -> Result<Box<T>, OpenFault>
-    ensures { IfOk result (λ it. it.value ≡ value) }
+    ensures value { IfOk result (λ it. it.value ≡ value) }
+    ensures fault { IfErr result (λ why. why ≡ open_fault.Memory) }
 {
     match Box::new(alloc, value) {
         Ok(value) => Ok(value),

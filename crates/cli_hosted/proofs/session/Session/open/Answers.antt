@@ -1,4 +1,5 @@
 use Rattle.std.proofs.Common.{refl}
+use Rattle.cli_disk.specs.contracts.impls.HostedDiskDisk.TheImpl as hosted
 use Rattle.std.specs.Prelude.{codes}
 use Rattle.cli_tool.specs.ToolAnswers.{owner_of}
 use Rattle.cli_hosted.proofs.Begun.{begun_of}
@@ -11,6 +12,6 @@ returns-clause-begun c =
 
 pub returns-clause-unopened : goal.returns-clause-unopened
 returns-clause-unopened c =
-    not_begun (codes "simplex") c.args.members (owner_of c.args.member) _ tt (λ d. refl) _ c.held.result c.set_up-node.result _ _ _ c.in-Ok.ensures
+    not_begun (codes "simplex") c.args.members (owner_of c.args.member) hosted.ghosts tt (λ d. refl) _ c.held.result c.set_up-node.result _ _ _ c.in-Ok.ensures
     c.set_up-node.ensures.unopened c.held.ensures.not_held
     (λ why unopened. ((λ place is. unopened.1.foreign place is tt), (λ position is. unopened.1.contradiction position c.args.member refl is)))

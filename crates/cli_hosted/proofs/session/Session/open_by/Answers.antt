@@ -1,4 +1,5 @@
 use Rattle.std.proofs.Common.{refl}
+use Rattle.cli_disk.specs.contracts.impls.HostedDiskDisk.TheImpl as hosted
 use Rattle.cli_opening.specs.Members.{owner_of}
 use Rattle.cli_hosted.proofs.Begun.{begun_by_of}
 use Rattle.cli_hosted.proofs.Opens.{owner_is}
@@ -12,7 +13,7 @@ returns-clause-begun c =
 pub returns-clause-unopened : goal.returns-clause-unopened
 returns-clause-unopened c =
     let s = c.args.settings.now in
-    not_begun s.committee.base.items s.committee.members (owner_of s) _ tt (λ d. refl) _ c.held.result c.set_up_by-node.result _ _ _ c.in-Ok.ensures
+    not_begun s.committee.base.items s.committee.members (owner_of s) hosted.ghosts tt (λ d. refl) _ c.held.result c.set_up_by-node.result _ _ _ c.in-Ok.ensures
     c.set_up_by-node.ensures.unopened c.held.ensures.not_held (λ why unopened. (
       (λ place is. unopened.3.foreign place is tt),
       (λ position is. rw (owner_is s unopened.0 c.requires unopened.2) at (unopened.3.contradiction position s.member refl is)),
