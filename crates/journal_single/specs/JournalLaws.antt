@@ -8,10 +8,9 @@ pub same_record : {M K : Type 0} (spelling : M → List ℕ) (seen : K → List 
     → seen new.disk ≡ seen old.disk → calls new.disk ≡ calls old.disk → new.gate ≡ old.gate → new.failed ≡ old.failed
     → IsRecord spelling seen calls old messages → IsRecord spelling seen calls new messages
 same_record spelling seen calls old new messages shows asked gate failed (runs, rest) =
-    let bodies = map spelling messages in
-    (
+    let bodies = map spelling messages in (
       failed ∙ runs,
       subst (λ (l : List ℕ). IsAtRest [] l (calls new.disk) new.gate bodies) (sym shows)
-      (subst (λ (l : List Call). IsAtRest [] (seen old.disk) l new.gate bodies) (sym asked)
-      (subst (λ (n : ℕ). IsAtRest [] (seen old.disk) (calls old.disk) n bodies) (sym gate) rest)),
+          (subst (λ (l : List Call). IsAtRest [] (seen old.disk) l new.gate bodies) (sym asked)
+          (subst (λ (n : ℕ). IsAtRest [] (seen old.disk) (calls old.disk) n bodies) (sym gate) rest)),
     )
