@@ -280,7 +280,7 @@ RULES = [
     Rule("docs/EMBEDDING.md", r"by (\w+) functions over one heap", lambda _: functions_of_the_heap()),
     Rule("docs/DECISIONS.md", r"are public beside the (\w+); what a caller of the (\w+) needs", lambda _: (public_crates(), public_crates())),
     # proved
-    Rule("docs/PROVED.md", r"and the (\w+) `push_` calls", lambda _: len(re.findall(r"(?m)^fn push_", read("crates/cli_disk/src/requests.rt")))),
+    Rule("docs/PROVED.md", r"and the (\w+) `push_` calls", lambda _: len(re.findall(r"(?m)^pub\(crate\) fn push_", read("crates/cli_disk/src/requests.rt")))),
     Rule("docs/PROVED.md", r"The heap's (\w+) functions", lambda _: functions_of_the_heap()),
     # formats
     *exact("docs/FORMATS.md", [*examples_of_formats(), *faults_of_settings()]),
