@@ -1,5 +1,5 @@
 -- What is asked of a disk leaves what it holds to be one of what a crash may leave.
-use Rattle.std.proofs.Common.{◌≡◌, ◌⊎◌, inl, inr, ⊎_elim, ◌-◌, ℕ, zero, suc, ◌+◌, ◌<◌, ◌≤◌, min, max, List, [], ◌∷◌, ◌++◌, length, get_or, take, drop, refl, sym, ◌∙◌, ap, subst, arith, append_assoc, length-append, length-take, length-drop}
+use Rattle.std.proofs.Common.{◌≡◌, ◌⊎◌, inl, inr, ⊎_elim, ◌-◌, ℕ, zero, suc, ◌+◌, ◌<◌, ◌≤◌, min, max, List, [], ◌∷◌, ◌++◌, length, get_or, take, drop, refl, sym, ◌∙◌, ap, subst, arith, append_assoc, append-nil, length-append, length-take, length-drop}
 use Rattle.std.proofs.lemmas.List.{get_or_past}
 use Rattle.journal_single.specs.Disk.{Call, Wrote, CutTo, Synced, MayLeave, IsOverwritten}
 use Rattle.cli_disk.specs.Requests.{EndsWith, number, tag_of, writing}
@@ -81,3 +81,19 @@ last_is file at bytes all ends =
     let whole : all ≡ (ends.before ++ head) ++ bytes = ends.is ∙ sym (append_assoc ends.before head bytes) in
     let long : length ((ends.before ++ head) ++ bytes) ≡ length (ends.before ++ head) + length bytes = length-append (ends.before ++ head) bytes in
     ap (λ (l : List ℕ). last (length bytes) l) whole ∙ drop-front (ends.before ++ head) bytes (length ((ends.before ++ head) ++ bytes) - length bytes) (omega (arith, long))
+
+-- what is asked more waits behind what waited
+pub asked_more : (before handed waiting request new : List ℕ) → before ≡ handed ++ waiting → new ≡ waiting ++ request → before ++ request ≡ handed ++ new
+asked_more before handed waiting request new all more =
+    ap (λ (l : List ℕ). l ++ request) all ∙ append_assoc handed waiting request ∙ ap (λ (l : List ℕ). handed ++ l) (sym more)
+
+-- so do the bytes of a write, which are the last of what was asked then
+pub asked_write : (file : File) (at : ℕ) (bytes before handed waiting new : List ℕ) → before ≡ handed ++ waiting → new ≡ waiting ++ writing file at bytes
+    → before ++ writing file at (last (length bytes) new) ≡ handed ++ new
+asked_write file at bytes before handed waiting new all more =
+    let same : last (length bytes) new ≡ bytes = last_is file at bytes new (record { before = waiting; is = more }) in
+    ap (λ (l : List ℕ). before ++ writing file at l) same ∙ asked_more before handed waiting (writing file at bytes) new all more
+
+-- where all is handed on nothing waits
+pub all_handed : (asked : List ℕ) → asked ≡ asked ++ []
+all_handed asked = sym (append-nil asked)

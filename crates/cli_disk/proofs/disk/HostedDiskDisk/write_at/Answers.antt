@@ -1,10 +1,12 @@
-use Rattle.std.proofs.Common.{◌≡◌, ◌+◌, ℕ, List, ◌++◌, length, take, drop, ◌∙◌, ap}
-use Rattle.cli_disk.specs.Told.{Contents, told, written}
+use Rattle.std.proofs.Common.{◌∷◌, ◌∙◌, ap}
+use Rattle.cli_disk.specs.Requests.{Write}
+use Rattle.cli_disk.specs.Told.{requests_of}
 use Rattle.cli_disk.proofs.Left.{last_is}
 use Rattle.cli_disk.proofs.disk.HostedDiskDisk.write_at.Goals as goal
 
+-- what was asked last is the write of these bytes
 pub returns-in-Ok-clause-written : goal.returns-in-Ok-clause-written
 returns-in-Ok-clause-written c =
-    let here : (told c.self-2.inside.log).bytes ≡ c.args.self.now.bytes = ap (λ d. d.bytes) c.self-2.view_is ∙ c.admit.ensures.same.bytes in
-    ap (λ (t : Contents). t.bytes) c.wrote.ensures ∙ ap (λ (b : List ℕ). (written (told c.self-2.inside.log) c.args.at b).bytes) (last_is _ _ _ _ c.in-Ok.ensures)
-    ∙ ap (λ (l : List ℕ). take c.args.at l ++ c.args.bytes.now ++ drop (c.args.at + length c.args.bytes.now) l) here
+    c.wrote.ensures.asked
+    ∙ ap (λ b. Write c.args.at b ∷ requests_of c.self-2.inside.log) (last_is _ _ _ _ (record { before = c.push_writing.old.list.items; is = c.push_writing.ensures.ok }))
+    ∙ ap (λ rs. Write c.args.at c.args.bytes.now ∷ rs) (ap (λ d. d.asked) c.self-2.view_is ∙ c.admit.ensures.same.asked)
