@@ -3,6 +3,7 @@ use Rattle.std.proofs.Common.{◌≡◌, ◌∙◌, inl, inr, ap, subst, sym, re
 use Rattle.std.specs.Prelude.{Result, Ok, Err, IfOk, unwrap_or}
 use Rattle.std.proofs.lemmas.Bool.{cases_eq}
 use Rattle.types_terms.specs.Rotation.{Rotation}
+use Rattle.types_terms.specs.Terms.{Timing}
 use Rattle.simplex_record.specs.declared.owner.Owner.{Owner}
 use Rattle.simplex_types.specs.Plain as plain
 use Rattle.cli_settings.specs.declared.fault.SettingsFault.TheVariants as fault
@@ -36,10 +37,12 @@ terms_long zero t is never = elim (cases_eq t.length 1) [
 ]
 terms_long (suc more) t is never = refl
 
--- whose record a member's is, by its leaders and by its settings
-pub owner_is : (s : Settings) (leaders : Rotation) → IsGood s → AreLeaders s.committee leaders
-    → record { epoch = s.committee.epoch; term_length = leaders.terms.length; signer = s.member } ≡ owner_of s
+-- whose record a member's is, where terms are so long
+abbrev pub owner_by : Settings → ℕ → Owner
+owner_by s long = record { epoch = s.committee.epoch; term_length = long; signer = s.member }
+
+-- so it is by its leaders and by its settings
+pub owner_is : (s : Settings) (leaders : Rotation) → IsGood s → AreLeaders s.committee leaders → owner_by s leaders.terms.length ≡ owner_of s
 owner_is s leaders good are =
-    let long : leaders.terms.length ≡ s.committee.turns.length =
-    ap (λ t. t.length) are.terms ∙ terms_long s.committee.turns.stall_timeout s.committee.turns refl (good.none fault.StallTimeoutZero) in
-    ap (λ (n : ℕ). record { epoch = s.committee.epoch; term_length = n; signer = s.member }) long
+    let turns : leaders.terms.length ≡ (timing_by s.committee.turns.stall_timeout s.committee.turns).length = ap (λ (t : Timing). t.length) are.terms in
+    ap (owner_by s) (turns ∙ terms_long s.committee.turns.stall_timeout s.committee.turns refl (good.none fault.StallTimeoutZero))

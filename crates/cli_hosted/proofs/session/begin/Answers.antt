@@ -21,8 +21,8 @@ returns-in-Ok-written-clause-begun g c =
     )
 
 -- the node is let go, since there was no memory for its reply
-pub returns-in-Ok-written-2-clause-unopened : goal.returns-in-Ok-written-2-clause-unopened
-returns-in-Ok-written-2-clause-unopened g c = (_, let_go _ _ _ _ _ _ _ _ _ _ _ c.in-Ok.ensures.has_opened)
+pub returns-in-Err-written-clause-unopened : goal.returns-in-Err-written-clause-unopened
+returns-in-Err-written-clause-unopened g c = (_, let_go _ _ _ _ _ _ _ _ _ _ _ c.in-Ok.ensures.has_opened)
 
 pub returns-in-Err-clause-unopened : goal.returns-in-Err-clause-unopened
 returns-in-Err-clause-unopened g c = (_, c.in-Err.ensures.unopened)
