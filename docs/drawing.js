@@ -2,7 +2,7 @@
 // What world.html and play.html draw: runs of simplex_world, by their JSON lines.
 // ---- a run, read from its lines
 
-/** The kinds of marks: what an event is drawn as, in which colour, and on which row of its member's lane. */
+/** The kinds of marks: what an event is drawn as, in which colour, if not that of the ink, and on which row of its member's lane. */
 const MARKS = {
   "built": { colour: "#7a8794", row: 0, shape: "square", name: "built" },
   "lied": { colour: "#8a3ab9", row: 0, shape: "cross", name: "lie" },
@@ -21,7 +21,7 @@ const MARKS = {
   "joined": { colour: "#2f6fde", row: 3, shape: "triangle", name: "joins late" },
   "closed": { colour: "#e08a00", row: 3, shape: "cross", name: "closed by its host" },
   "rewrote": { colour: "#59b6a5", row: 3, shape: "square", name: "record rewritten" },
-  "opened": { event: "opened", colour: "#1d232b", row: 3, shape: "circle", name: "opening" },
+  "opened": { row: 3, shape: "circle", name: "opening" },
   "lost": { colour: "#d0342c", row: 3, shape: "square", name: "record lost" },
   "contradicts": { colour: "#ff0040", row: 3, shape: "star", name: "contradiction" },
 };
@@ -196,8 +196,6 @@ function verdictOf({ ended, world, chain }) {
   return { look: "good", text: `one chain · status ${ended.status}` };
 }
 
-if (typeof document === "undefined") module.exports = { readRuns, readLine, isWorld, begun, grow, markOf, verdictOf };
-
 // ---- the picture
 
 const INKS = {
@@ -210,8 +208,8 @@ function drawing() {
   const at = (id) => document.getElementById(id);
   const canvas = at("lanes"), brush = canvas.getContext("2d"), stage = at("stage");
   const hidden = new Set(), stamps = new Map();
-  const isDark = window.matchMedia("(prefers-color-scheme: dark)");
-  let run = null, left = 0, right = 1, inks = INKS.light, cursor = null;
+  const isDark = window.matchMedia("(prefers-color-scheme: dark)"), inksOf = () => (isDark.matches ? INKS.dark : INKS.light);
+  let run = null, left = 0, right = 1, inks = inksOf(), cursor = null;
   const TOP = 26, LEAST_LANE = 34, BRANCH = 26, CROWD = 5000, MOST_NAMED = 500;
 
   // What is asked of the page's layout, once a frame: the room of labels, of lanes, of one lane and of the chain.
@@ -256,7 +254,7 @@ function drawing() {
 
   function draw() {
     if (run) measure();
-    inks = isDark.matches ? INKS.dark : INKS.light;
+    inks = inksOf();
     const scale = window.devicePixelRatio || 1;
     const height = run ? Math.max(stage.clientHeight - 2, TOP + run.world.members * laneHeight() + room.chain) : 0;
     canvas.style.height = `${height}px`;
@@ -362,7 +360,7 @@ function drawing() {
 
   function drawMark(mark, bins, columns, grain) {
     const stamp = stampOf(mark), from = Math.round(label());
-    brush.fillStyle = mark.colour;
+    brush.fillStyle = colourOf(mark);
     for (let bin = 0; bin < bins.length; bin++) {
       if (!bins[bin]) continue;
       const member = Math.floor(bin / columns), begun = bin, y = Math.round(yOf(member, mark.row));
@@ -382,13 +380,15 @@ function drawing() {
       stamp.width = stamp.height = 16 * scale;
       pen.scale(scale, scale);
       trace(path, mark.shape, 8, 8, 4);
-      pen.fillStyle = pen.strokeStyle = mark.event === "opened" ? inks.ink : mark.colour;
+      pen.fillStyle = pen.strokeStyle = colourOf(mark);
       pen.lineWidth = 2;
       if (mark.shape === "cross" || mark.shape === "star") pen.stroke(path); else pen.fill(path);
       stamps.set(mark, stamp);
     }
     return stamps.get(mark);
   }
+
+  const colourOf = (mark) => mark.colour ?? inks.ink;
 
   /** Adds a shape's outline to a path; the marks and the legend are drawn by it. */
   function trace(path, shape, x, y, size) {
@@ -500,9 +500,11 @@ function drawing() {
     fillTable();
   }
 
-  function sumOf({ world, ended }) {
-    return `${world.members} members, at most ${world.faults} may lie, seed ${world.seed}`
-      + (ended ? `; ${ended.chain} final, ${ended.contradictions} contradictions, ${ended.named} named, ${ended.blamed} wrongly` : "");
+  function sumOf({ world, ended, finals }) {
+    const said = [`${world.members} members, at most ${world.faults} may lie, seed ${world.seed}`];
+    if (ended) said.push(`${ended.chain} final, ${ended.contradictions} contradictions, ${ended.named} named, ${ended.blamed} wrongly`);
+    if (ended?.reached < world.views) said.push(`view ${world.views} wasn't reached: nothing final since ${((finals.at(-1)?.at ?? 0) / 1000).toFixed(1)} s, to the end at ${(ended.at / 1000).toFixed(1)} s`);
+    return said.join("; ");
   }
 
   function fillTable() {
@@ -542,21 +544,24 @@ function drawing() {
     return svg;
   }
 
+  /** The legend, in the colours of the page. */
   function fillKeys() {
+    at("keys").replaceChildren();
+    at("looks").replaceChildren();
     for (const mark of Object.values(MARKS)) {
       const line = document.createElement("label"), box = document.createElement("input");
       box.type = "checkbox";
-      box.checked = true;
+      box.checked = !hidden.has(mark.name);
       box.onchange = () => {
         if (box.checked) hidden.delete(mark.name); else hidden.add(mark.name);
         draw();
       };
-      line.append(box, pictured(mark.shape, mark.colour), mark.name);
+      line.append(box, pictured(mark.shape, colourOf(mark)), mark.name);
       at("keys").append(line);
     }
     const looks = [
-      ["square", "#dde7f1", false, "a view, by its number"], ["square", "#eab0ad", false, "down"], ["square", INKS.light.green, false, "final block"],
-      ["square", INKS.light.green, true, "genesis, or final as an ancestor alone"], ["square", INKS.light.red, false, "red: another branch is final too"],
+      ["square", inks.views[0], false, "a view, by its number"], ["square", inks.down, false, "down"], ["square", inks.green, false, "final block"],
+      ["square", inks.green, true, "genesis, or final as an ancestor alone"], ["square", inks.red, false, "red: another branch is final too"],
     ];
     for (const [shape, colour, hollow, text] of looks) {
       const line = document.createElement("span");
@@ -604,7 +609,7 @@ function drawing() {
   at("in").onclick = () => zoom(0.6);
   at("out").onclick = () => zoom(1 / 0.6);
   at("all").onclick = canvas.ondblclick = () => run && look(full().least, full().most);
-  isDark.addEventListener("change", draw);
+  isDark.addEventListener("change", () => { draw(); fillKeys(); });
   window.onresize = draw;
   canvas.addEventListener("wheel", (wheel) => {
     if (!run || wheel.shiftKey) return;

@@ -129,15 +129,17 @@ class Engine {
 
 /** In the worker: what the page asks, one thing behind another. */
 function serveEngine() {
-  let engine = null, last = Promise.resolve();
+  let engine = null, last = Promise.resolve(), trouble;
   onmessage = ({ data }) => { last = last.then(() => serve(data)); };
   async function serve({ number, ask, with: given }) {
     let answer;
     try {
       if (ask === "start") engine = await startEngine(...given);
       answer = ask === "start" ? STATUS.DONE : engine[ask](...given);
+      if (typeof answer === "number") answer = { status: answer };
     } catch (error) {
-      answer = { status: STATUS.MEMORY, text: "", trouble: String(error) };
+      trouble ??= String(error); // what failed first is why the rest does
+      answer = { status: STATUS.MEMORY, text: "", trouble };
     }
     postMessage({ number, answer });
   }
@@ -175,5 +177,3 @@ const ENGINE_SOURCE = [
   `"use strict"; const STATUS = ${JSON.stringify(STATUS)}, HANDLE = ${HANDLE}, FOUND = ${FOUND}, WASM_PAGE = ${WASM_PAGE}, MOST_MEMORY = ${MOST_MEMORY};`,
   startEngine, Engine, serveEngine,
 ].map(String).join("\n");
-
-if (typeof document === "undefined" && typeof module !== "undefined") module.exports = { Engine, startEngine, has64BitMemory, STATUS };

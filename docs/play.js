@@ -6,13 +6,13 @@ const at = (id) => document.getElementById(id), picture = drawing();
 const SPEEDS = [["1/20", 0.05], ["1/10", 0.1], ["1/4", 0.25], ["1/2", 0.5], ["1", 1], ["3", 3], ["10", 10], ["100", 100], ["all", Infinity]];
 /** Events that the worker is asked for at once, lines that wait here at most, and lines that one frame takes. */
 const BATCH = 4000, AHEAD = 30000, PER_FRAME = 1500;
-/** Of what a followed run shows, in milliseconds; what is told of; how often somebody who wants no motion is shown a new picture. */
-const SPAN = 1500, TOLD = 40, STILL = 500;
-const isStill = window.matchMedia("(prefers-reduced-motion: reduce)");
+/** How much a followed run shows, in milliseconds; how many events are told; how often somebody who wants no motion is shown a new picture. */
+const SPAN = 1500, TOLD = 13, STILL = 500;
+const isStill = window.matchMedia("(prefers-reduced-motion: reduce)"), isNarrow = window.matchMedia("(max-width: 1050px)");
 
 const play = {
-  engine: null, bytes: null, run: null, queue: [], place: 0, isAsked: false, isDone: true, isPlaying: false, seeks: null, clock: 0, ended: null, led: [], last: null,
-  drawn: 0, before: 0, epoch: 0, worst: 0,
+  engine: null, bytes: null, run: null, queue: [], place: 0, isAsked: false, isDone: true, isPlaying: false, seeks: null, clock: 0, ended: null, led: [], last: null, recent: [],
+  drawn: 0, before: 0, epoch: 0, frames: 0,
 };
 
 // ---- the module
@@ -24,6 +24,7 @@ function begin() {
   at("built").textContent = `${PAGE_MODULE.proved ? "proved" : "UNPROVED"}, commit ${PAGE_MODULE.commit}, ${PAGE_MODULE.kit}`;
   at("whose").textContent = PAGE_MODULE.proved ? "The nodes that run are the library's own, proved, and compiled for this page." : "The nodes that run are the library's own, but nothing of this build was proved.";
   at("built").title = `sha256 ${PAGE_MODULE.sha256}, ${PAGE_MODULE.bytes} bytes`;
+  play.bytes = moduleBytes(PAGE_MODULE);
   restart();
   return true;
 }
@@ -35,45 +36,44 @@ function restart() {
 }
 
 function worker() {
-  play.bytes ??= moduleBytes(PAGE_MODULE);
   return new Remote(ENGINE_SOURCE, play.bytes, PAGE_MODULE.memory);
 }
 
 function refuse(why) {
   at("wrong").textContent = why;
   at("hint").textContent = why;
-  for (const id of ["open", "play", "step", "lie", "crash", "split", "finish", "stop", "file"]) at(id).disabled = true;
+  for (const id of ["open", "play", "step", "lie", "crash", "split", "finish", "stop", "another", "file"]) at(id).disabled = true;
   return false;
 }
 
 // ---- a run
 
-/** What the module is given: the page draws each event, so it wants all lines, as JSON. */
+/** What the module is given: the page draws each event, so it wants all lines, as JSON. Each line stays at its place, as refusals count them. */
 function asked(text) {
-  const first = text.split(/^run$/m)[0];
-  return `${first.split("\n").filter((line) => !/^(lines|format) /.test(line)).join("\n")}\nlines all\nformat json`;
+  const [first] = text.split(/^run$/m);
+  return `${first.replace(/^(lines|format) .*$/gm, "")}\nlines all\nformat json`;
 }
 
 /** Opens the scenario in place of what is played. */
 async function open(isPlaying = true) {
+  if (!play.bytes) return;
   const epoch = ++play.epoch;
   at("wrong").textContent = "";
   restart();
-  Object.assign(play, { run: null, queue: [], place: 0, isAsked: false, isDone: false, seeks: null, clock: 0, ended: null, led: [], last: null, worst: 0 });
+  Object.assign(play, { run: null, queue: [], place: 0, isAsked: false, isDone: false, seeks: null, clock: 0, ended: null, led: [], last: null, recent: [] });
   picture.choose(null);
-  at("told").replaceChildren();
-  at("named").textContent = "";
-  const status = await play.engine.ask("open", asked(at("text").value), true);
+  for (const id of ["said", "told", "named"]) at(id).replaceChildren();
+  const answer = await play.engine.ask("open", asked(at("text").value), true);
   if (epoch !== play.epoch) return;
-  if (status !== STATUS.DONE) return broken(status);
+  if (answer.status !== STATUS.DONE) return broken(answer);
   setPlaying(isPlaying);
   await more();
 }
 
-function broken(status) {
+function broken({ status, trouble }) {
   play.isDone = true;
   setPlaying(false);
-  at("wrong").textContent = status === STATUS.MEMORY ? "Memory ran out: the run can't go on." : `The module answers ${status?.status ?? status}.`;
+  at("wrong").textContent = trouble ?? (status === STATUS.MEMORY ? "Memory ran out: the run can't go on." : `The module answers ${status}.`);
 }
 
 /** Asks for the lines to come, where few wait. */
@@ -88,7 +88,7 @@ async function more() {
 }
 
 /** Takes lines up. */
-function taken({ status, text, ended }) {
+function taken({ status, text, ended, trouble }) {
   if (play.place > 0) { play.queue.splice(0, play.place); play.place = 0; }
   for (const line of text.split("\n")) {
     const event = readLine(line);
@@ -104,7 +104,7 @@ function taken({ status, text, ended }) {
     }
     play.queue.push(event);
   }
-  if (status !== STATUS.DONE) return broken(status);
+  if (status !== STATUS.DONE) return broken({ status, trouble });
   if (ended !== null && ended !== undefined) { play.isDone = true; play.ended = ended; }
   if (!play.isDone) more();
 }
@@ -117,17 +117,16 @@ function next() {
   play.last = { event, led: play.led[event.member] };
   const name = event.kind === undefined ? event.event : `${event.event} ${event.kind}`;
   if (Object.hasOwn(LED, name)) play.led[event.member] = name;
-  recent.push(play.last);
-  if (recent.length > TOLD) recent.shift();
+  play.recent.push(play.last);
+  if (play.recent.length > TOLD) play.recent.shift();
   return event;
 }
-const recent = [];
 
 const isOver = () => play.isDone && play.place >= play.queue.length;
 
 /** A frame: as many events as the clock has come to, and the picture of them. */
 function frame(now) {
-  const begun = performance.now(), gone = Math.min(now - play.before, 100);
+  const gone = Math.min(now - play.before, 100);
   play.before = now;
   if (play.run && (play.isPlaying || play.seeks)) {
     advance(gone);
@@ -136,8 +135,7 @@ function frame(now) {
       play.drawn = now;
       show();
     }
-    play.frames = (play.frames ?? 0) + 1;
-    play.worst = Math.max(play.worst, performance.now() - begun);
+    play.frames += 1;
   }
   requestAnimationFrame(frame);
 }
@@ -160,9 +158,9 @@ function stopSeeking() {
   play.drawn = -Infinity;
 }
 
-/** Looks for the next event of a kind. */
-function seek(seeks) {
-  if (!play.run) return;
+/** Looks for the next event of a kind, in a run that it begins where there is none. */
+async function seek(seeks) {
+  if (!play.run) await open(false);
   play.seeks = seeks;
 }
 
@@ -193,6 +191,7 @@ async function stop() {
 function setPlaying(isPlaying) {
   play.isPlaying = isPlaying;
   at("play").textContent = isPlaying ? "Pause" : "Play";
+  at("said").setAttribute("aria-live", isPlaying ? "off" : "polite"); // what passes by is too much to be read out
 }
 
 // ---- what is shown
@@ -228,7 +227,7 @@ function say() {
   bold.textContent = what;
   at("said").dataset.at = play.last.event.at;
   at("said").replaceChildren(bold, why);
-  at("told").replaceChildren(...recent.slice(0, -1).reverse().slice(0, 12).map(({ event, led }) => {
+  at("told").replaceChildren(...play.recent.slice(0, -1).reverse().map(({ event, led }) => {
     const line = document.createElement("li");
     line.textContent = `${event.at} ms: ${told(event, play.run, led)[0]}`;
     return line;
@@ -240,17 +239,31 @@ function say() {
 /** The form's values: what the text says, unless it says what no control has. */
 let values = plainScenario();
 
+/** What was typed as a whole number between these; what is none is as it was. */
+function bounded(typed, least, most, before = least) {
+  const given = Math.round(Number(typed));
+  return typed !== "" && Number.isFinite(given) ? Math.min(Math.max(given, least), most) : before;
+}
+
 function number(value, least, most, name, take) {
   const input = document.createElement("input");
   Object.assign(input, { type: "number", min: least, max: most, step: 1, value, title: `${name}: ${least} to ${most}` });
   input.setAttribute("aria-label", name);
   input.onchange = () => {
-    const given = Math.round(Number(input.value));
-    input.value = Number.isFinite(given) ? Math.min(Math.max(given, least), most) : value;
-    take(Number(input.value));
+    input.value = value = bounded(input.value, least, most, value);
+    take(value);
     fromForm();
   };
   return input;
+}
+
+/** A control of one of some words. */
+function choice(value, words, name, take) {
+  const select = document.createElement("select");
+  select.replaceChildren(...Object.entries(words).map(([word, says]) => new Option(says, word, false, word === value)));
+  select.setAttribute("aria-label", name);
+  select.onchange = () => { take(select.value); fromForm(); };
+  return select;
 }
 
 function fillForm() {
@@ -263,68 +276,76 @@ function fillForm() {
       set.append(legend);
       groups.set(group, set);
     }
-    fields.forEach(([name, , least, most], place) => {
-      const label = document.createElement("label");
-      label.className = "field";
-      const input = number(values.numbers[word][place], least, most, name, (given) => { values.numbers[word][place] = given; });
-      input.id = `${word}-${place}`;
-      label.append(name, input);
-      groups.get(group).append(label);
-    });
+    groups.get(group).append(...fields.map((field, place) => fieldOf(word, field, place)));
   }
   at("fields").replaceChildren(...groups.values());
-  rows("liars", values.liars, liarRow);
-  rows("crashes", values.crashes, crashRow);
-  rows("joins", values.joins, joinRow);
-  rows("downs", values.downs, downRow);
-  rows("cuts", values.cuts, cutRow);
+  fillRows();
 }
 
-function rows(id, list, make) {
-  at(id).replaceChildren(...list.map((each, place) => {
-    const row = document.createElement("div"), remove = document.createElement("button");
-    remove.textContent = "remove";
-    remove.setAttribute("aria-label", `remove ${id} ${place + 1}`);
-    remove.onclick = () => { list.splice(place, 1); fromForm(); fillForm(); };
-    row.append(...make(each), remove);
-    return row;
-  }));
+/** The control of a line's value, in its label. How many members there are bounds what rows say of one. */
+function fieldOf(word, [name, , ...bounds], place) {
+  const label = document.createElement("label"), value = values.settings[word][place];
+  const take = (given) => { values.settings[word][place] = given; if (word === "members") fillRows(); };
+  const input = typeof bounds[0] === "object" ? choice(value, bounds[0], name, take) : number(value, ...bounds, name, take);
+  label.className = "field";
+  input.id = `${word}-${place}`;
+  label.append(name, input);
+  return label;
 }
 
-const last = () => values.numbers.members[0] - 1;
+/** What may come several times, a row each: how one is made, and what a new one says. */
+const ROWS = {
+  liars: [liarRow, () => ({ member: last(), ways: ["two-votes"] })],
+  crashes: [numbersRow, () => [0, 3, 5, 500]],
+  joins: [numbersRow, () => [last(), 5000]],
+  downs: [numbersRow, () => [0, 1000 + 10000 * values.downs.length, 6000 + 10000 * values.downs.length]],
+  cuts: [cutRow, () => [0, 2000, "0"]],
+};
+
+function fillRows() {
+  for (const [id, [make]] of Object.entries(ROWS)) {
+    at(id).replaceChildren(...values[id].map((each, place) => {
+      const row = document.createElement("div"), remove = document.createElement("button");
+      remove.textContent = "remove";
+      remove.setAttribute("aria-label", `remove row ${place + 1}`);
+      remove.onclick = () => { values[id].splice(place, 1); changeRows(); at(`add-${id}`).focus(); };
+      row.append(...make(each, id), remove);
+      return row;
+    }));
+  }
+}
+
+function changeRows() {
+  fromForm();
+  fillRows();
+}
+
+const last = () => values.settings.members[0] - 1;
 
 function liarRow(liar) {
-  const boxes = Object.entries(WAYS).map(([way, does]) => {
+  const does = document.createElement("span"), say = () => { does.textContent = liar.ways.map((way) => WAYS[way]).join("; "); };
+  const boxes = Object.keys(WAYS).map((way) => {
     const label = document.createElement("label"), box = document.createElement("input");
     Object.assign(box, { type: "checkbox", checked: liar.ways.includes(way) });
-    box.onchange = () => { liar.ways = Object.keys(WAYS).filter((it) => (it === way ? box.checked : liar.ways.includes(it))); fromForm(); };
-    label.title = does;
+    box.onchange = () => { liar.ways = Object.keys(WAYS).filter((it) => (it === way ? box.checked : liar.ways.includes(it))); say(); fromForm(); };
+    label.title = WAYS[way];
     label.append(box, way);
     return label;
   });
-  return ["member", number(liar.member, 0, last(), "who lies", (given) => { liar.member = given; }), ...boxes];
+  does.className = "none";
+  say();
+  return ["member", number(liar.member, 0, last(), "who lies", (given) => { liar.member = given; }), ...boxes, does];
 }
 
-function crashRow(crash) {
-  const of = (place, name, least, most) => number(crash[place], least, most, name, (given) => { crash[place] = given; });
-  return ["member", of(0, "who crashes", 0, last()), "in view", of(1, "in which view", 1, 10000), "after calls", of(2, "after so many calls of its disk", 0, 10000), "down, ms", of(3, "for so long", 0, 1e6)];
-}
-
-function joinRow(join) {
-  const of = (place, name, least, most) => number(join[place], least, most, name, (given) => { join[place] = given; });
-  return ["member", of(0, "who joins late", 0, last()), "at, ms", of(1, "joins at", 1, 1e9)];
-}
-
-function downRow(down) {
-  const of = (place, name, least, most) => number(down[place], least, most, name, (given) => { down[place] = given; });
-  return ["member", of(0, "who is killed", 0, last()), "from, ms", of(1, "killed at", 0, 1e8), "until", of(2, "opened again at", 1, 1e9)];
+function numbersRow(row, id) {
+  return LISTS[id][1].flatMap(([before, name, least = 0, most = last()], place) => [before, number(row[place], least, most, name, (given) => { row[place] = given; })]);
 }
 
 function cutRow(cut) {
   const of = (place, name) => number(cut[place], 0, 1e8, name, (given) => { cut[place] = given; }), side = document.createElement("input");
   Object.assign(side, { type: "text", value: cut[2], pattern: "\\d+(,\\d+)*" });
   side.setAttribute("aria-label", "members of the one side");
-  side.onchange = () => { if (/^\d+(,\d+)*$/.test(side.value)) cut[2] = side.value; else side.value = cut[2]; fromForm(); };
+  side.onchange = () => { if (isSide(side.value)) cut[2] = side.value; else side.value = cut[2]; fromForm(); };
   return ["from, ms", of(0, "from"), "until", of(1, "until"), "members", side];
 }
 
@@ -339,15 +360,22 @@ function fromText(text, about = "") {
   at("text").value = text;
   const found = scenarioOf(text);
   if (found) { values = found; fillForm(); }
-  at("about").textContent = [about, found ? sentenceOf(found) : "Controls don't have all of these lines: the text counts."].filter(Boolean).join(" ");
+  at("about").textContent = [about, found ? sentenceOf(found) : "A line here is none that controls have: the text counts, until a control is changed."].filter(Boolean).join(" ");
 }
 
+/** The scenarios to begin with: those that tell something, and those that a tool made. */
 function fillPresets() {
-  const presets = scenariosOf(PRESETS);
-  at("preset").replaceChildren(...presets.map(({ told: comment, text }, place) => new Option(/^scenario/.test(comment) ? `${place + 1}: ${sentenceOf(scenarioOf(text) ?? plainScenario())}` : `${place + 1}: ${comment}`, place)));
+  const presets = scenariosOf(PRESETS), isMade = ({ told: comment }) => /^scenario/.test(comment);
+  const groups = [["To begin with", (each) => !isMade(each)], ["Made by chance", isMade]].map(([name, holds]) => {
+    const group = document.createElement("optgroup");
+    group.label = name;
+    group.append(...presets.filter(holds).map((each) => new Option(isMade(each) ? sentenceOf(scenarioOf(each.text) ?? plainScenario()) : each.told, presets.indexOf(each))));
+    return group;
+  });
+  at("preset").replaceChildren(...groups);
   at("preset").onchange = () => {
-    const { told: comment, text } = presets[at("preset").value];
-    fromText(text.split("\n").filter((line) => !/^(lines|format) /.test(line)).join("\n"), /^scenario/.test(comment) ? "" : comment);
+    const preset = presets[at("preset").value];
+    fromText(preset.text.split("\n").filter((line) => !/^(lines|format) /.test(line)).join("\n"), isMade(preset) ? "" : preset.told);
     open();
   };
   return presets;
@@ -365,14 +393,18 @@ async function link() {
   }
 }
 
-function fromLink() {
-  if (location.hash.length < 2) return false;
+/** The text that the address holds, or nothing. */
+function linked() {
   try {
-    fromText(decodeURIComponent(location.hash.slice(1)), "From a link.");
+    return decodeURIComponent(location.hash.slice(1));
   } catch {
-    return false;
+    return "";
   }
-  return true;
+}
+
+function fromLink() {
+  if (linked()) fromText(linked(), "From a link.");
+  return linked() !== "";
 }
 
 // ---- reports and records of somebody's own
@@ -382,6 +414,7 @@ const answering = { asked: 0, told: 0 };
 
 /** Tells what a file says. Of two the last one is told, whichever is read sooner; a folder, or a file that is gone, can't be read. */
 async function answer(file) {
+  if (!play.bytes) return;
   const number = ++answering.asked;
   at("answer").textContent = "…";
   const told = await examined(file).catch((error) => `${file.name || "it"} can't be read: ${error.message}`);
@@ -391,9 +424,8 @@ async function answer(file) {
 }
 
 async function examined(file) {
-  const bytes = new Uint8Array(await file.arrayBuffer()), members = Math.min(Math.max(Math.round(at("count").value), 0) || 0, 65535);
-  const isRecord = at("is-record").checked, owner = Math.min(Math.max(Math.round(at("owner").value), 0) || 0, 65535);
-  const asks = isRecord ? ["record", members, owner, bytes] : ["audit", members, bytes];
+  const bytes = new Uint8Array(await file.arrayBuffer()), members = bounded(at("count").value, 0, 65535);
+  const asks = at("is-record").checked ? ["record", members, bounded(at("owner").value, 0, 65535), bytes] : ["audit", members, bytes];
   const helper = worker();
   const { status, text } = await helper.ask(...asks);
   helper.end();
@@ -407,14 +439,10 @@ function wire() {
   at("speed").replaceChildren(...SPEEDS.map(([name], place) => new Option(name === "all" ? "as fast as it can" : `× ${name}`, place)));
   at("speed").value = 3;
   at("open").onclick = () => open();
-  at("another").onclick = () => { values.seed = Math.floor(Math.random() * 1e9); setSeed(values.seed); open(); };
-  at("seed").onchange = () => { values.seed = Math.min(Math.max(Math.round(Number(at("seed").value)) || 0, 0), 1e9); setSeed(values.seed); };
+  at("another").onclick = () => { setSeed(Math.floor(Math.random() * MOST_NUMBER)); open(); };
+  at("seed").onchange = () => { setSeed(bounded(at("seed").value, 0, MOST_NUMBER, values.seed)); };
   at("text").onchange = () => fromText(at("text").value);
-  at("add-liar").onclick = () => { values.liars.push({ member: last(), ways: ["two-votes"] }); fromForm(); fillForm(); };
-  at("add-crash").onclick = () => { values.crashes.push([0, 3, 5, 500]); fromForm(); fillForm(); };
-  at("add-join").onclick = () => { values.joins.push([last(), 5000]); fromForm(); fillForm(); };
-  at("add-down").onclick = () => { values.downs.push([0, 1000 + 10000 * values.downs.length, 6000 + 10000 * values.downs.length]); fromForm(); fillForm(); };
-  at("add-cut").onclick = () => { values.cuts.push([0, 2000, "0"]); fromForm(); fillForm(); };
+  for (const [id, [, fresh]] of Object.entries(ROWS)) at(`add-${id}`).onclick = () => { values[id].push(fresh()); changeRows(); };
   at("link").onclick = link;
   at("play").onclick = toggle;
   at("step").onclick = step;
@@ -428,7 +456,7 @@ function wire() {
   at("all").addEventListener("click", () => picture.moved());
   document.body.ondragover = (drag) => drag.preventDefault();
   document.body.ondrop = (drop) => { drop.preventDefault(); if (drop.dataTransfer.files[0]) answer(drop.dataTransfer.files[0]); };
-  window.onhashchange = () => { if (fromLink()) open(); };
+  window.onhashchange = () => { if (linked() !== at("text").value && fromLink()) open(); }; // a link that was copied changes nothing
   document.addEventListener("keydown", press);
 }
 
@@ -446,14 +474,14 @@ async function toggle() {
 }
 
 function press(key) {
-  if (key.ctrlKey || key.metaKey || key.altKey || /^(INPUT|SELECT|TEXTAREA)$/.test(key.target.tagName)) return;
+  if (!at("keyed").checked || key.ctrlKey || key.metaKey || key.altKey || /^(INPUT|SELECT|TEXTAREA|SUMMARY)$/.test(key.target.tagName)) return;
   const [left, right] = picture.span(), by = (right - left) / 8, away = () => picture.moved();
   const does = {
     " ": () => key.target.tagName === "BUTTON" || toggle(), "ArrowRight": step, "l": () => seek(IS.lie), "c": () => seek(IS.crash), "x": () => seek(IS.split), "e": () => seek(IS.finish),
     "+": () => { play.isZoomed = true; picture.zoom(0.6); }, "-": () => { play.isZoomed = true; picture.zoom(1 / 0.6); }, "0": () => at("all").click(),
     "[": () => { away(); picture.look(left - by, right - by); }, "]": () => { away(); picture.look(left + by, right + by); },
   }[key.key];
-  if (!does || (!play.run && key.key !== " " && key.key !== "ArrowRight")) return;
+  if (!does || (!play.run && /^[-+0[\]]$/.test(key.key))) return;
   if (!(key.key === " " && key.target.tagName === "BUTTON")) key.preventDefault();
   does();
 }
@@ -461,9 +489,10 @@ function press(key) {
 wire();
 const presets = fillPresets();
 picture.choose(null);
+at("change").open = !isNarrow.matches;
+const isLinked = fromLink();
+if (!isLinked) fromText(presets[0].text, presets[0].told);
 if (begin()) {
-  if (fromLink()) open(false); else { fromText(presets[0].text, presets[0].told); }
+  if (isLinked) open(false);
   requestAnimationFrame(frame);
-} else {
-  fromText(presets[0].text, presets[0].told);
 }

@@ -315,13 +315,14 @@ const PRESETS =
   "reopen 1000\n" +
   "lines some\n" +
   "run\n" +
-  "# Four members, one dead for good, and of a thousand packets 300 are lost: behind view 33 nobody enters one any more.\n" +
+  "# Four members, one dead for good, and of a thousand packets 300 are lost. Nodes ask once: behind view 33 nobody enters one any more.\n" +
   "members 4\n" +
   "seed 154\n" +
   "views 66\n" +
   "until 120000\n" +
   "lose 300\n" +
   "term 4 10000 2\n" +
+  "repair once 0\n" +
   "down 3 0 1000000000\n" +
   "lines some\n" +
   "run\n" +
@@ -332,8 +333,20 @@ const PRESETS =
   "until 120000\n" +
   "lose 300\n" +
   "term 4 10000 2\n" +
+  "repair once 0\n" +
   "down 3 0 1000000000\n" +
   "reopen 5000\n" +
+  "lines some\n" +
+  "run\n" +
+  "# The same without such hosts, and nodes that ask again with each repeated vote, for four views at once: the committee gets on too.\n" +
+  "members 4\n" +
+  "seed 154\n" +
+  "views 66\n" +
+  "until 120000\n" +
+  "lose 300\n" +
+  "term 4 10000 2\n" +
+  "repair with-nullify 4\n" +
+  "down 3 0 1000000000\n" +
   "lines some\n" +
   "run\n" +
   "# Four members in terms of two views, and a network that loses: each record is rewritten behind three views that became final.\n" +

@@ -1,13 +1,6 @@
 "use strict";
 // What an event of a run means, in words: what happened, and by which rule.
 
-/** What a liar does, by the word that a line has for it. */
-const LIES = {
-  "two-votes": "sends one vote to members of even index and another to those of odd index", "two-proposals": "proposes one payload to members of even index and another to those of odd index",
-  "two-faced": "votes on each side, even and odd, for what that side votes for", "forged": "spoils what it sends", "withheld": "sends nothing to members of odd index",
-  "asking": "asks others for views that it needn't know of", "stale": "sends certificates long past", "silent": "sends nothing",
-};
-
 /** What led a member on to a view, by the last of its marks that can. */
 const LED = {
   "judged": "the application's verdict on the view before is good", "certified nullification": "a nullification covers the view before",
@@ -37,14 +30,14 @@ function told(event, { world, ways }, led) {
     case "found": return [`${who} finds in its record: ${kind}, view ${view}${payload === undefined ? "" : `, payload ${payload}`}.`, "An opening goes through the record from its beginning, and reports all that stands there once more."];
     case "crashed": if (event.in) return [`${who} crashes while its record is rewritten; ${event.bytes} bytes are left on its two disks.`, "The record from before stays whole on the one, until the new one is whole on the other. The next opening finds this one or that."];
       return [`${who} crashes inside a call of its disk; ${event.bytes} bytes are left there.`, "Of the write some bytes stand, of what wasn't synced a part. Nothing that rests on the lost part was handed out."];
-    case "down": return [`${who} is killed, and will be opened again at ${(event.until / 1000).toFixed(2)} s.`, "What it wrote stays on its disk. Packets that come to it by then are lost, and nobody sends them again."];
+    case "down": return [`${who} is killed, and ${event.until < MOST_NUMBER ? `will be opened again at ${(event.until / 1000).toFixed(2)} s` : "stays so"}.`, "What it wrote stays on its disk. Packets that come to it by then are lost, and nobody sends them again."];
     case "away": return [`${who} isn't there yet, and joins at ${(event.until / 1000).toFixed(2)} s.`, "What is sent to it by then is lost, and nobody sends it again."];
     case "joined": return view > 0
       ? [`${who} joins, and starts from payload ${payload ?? "?"} of view ${view}, which is final.`, "Its host was given that finalization by a member that runs, and needn't believe it: a finalization proves itself. Of what lies below the member knows nothing."]
       : [`${who} joins, and starts from genesis.`, "Nothing is final yet."];
-    case "closed": return [`${who}'s host closes its node, which stands in view ${view}, and opens the record again.`, `It entered no view for ${event.waited / 1000} s. What a node lacks it asks for once in a life, so where that ask or each answer was lost, a new life asks again.`];
+    case "closed": return [`${who}'s host closes its node, which stands in view ${view}, and opens the record again.`, `It entered no view for ${event.waited / 1000} s. A new life asks anew for all that it lacks.`];
     case "lost": return [`${who}'s record isn't opened again.`, "This never comes where the disk kept what disks keep: it would be a broken promise."];
-    case "lied": return [`${who} lies: it ${LIES[kind] ?? kind}${view === undefined ? "" : `, in view ${view}`}.`, `Up to ${world.faults} of ${world.members} may. What it signs twice is evidence, wherever the two votes meet.`];
+    case "lied": return [`${who} lies: it ${WAYS[kind] ?? kind}${view === undefined ? "" : `, in view ${view}`}.`, `Up to ${world.faults} of ${world.members} may. What it signs twice is evidence, wherever the two votes meet.`];
     case "blocked": return [`${who} blocks member ${event.other}.`, "It sent what can't be read, bears another's name, contradicts its own vote or doesn't certify."];
     case "contradicts": return [`CONTRADICTION: at member ${member} payload ${payload} of view ${view} is final, on no one chain with what others have.`, `That needs more than ${world.faults} liars, and each of at least ${world.faults + 1} signed two votes that contradict each other: the audit names them.`];
     case "saw evidence": return [`${who} holds two votes of one member in view ${view} that contradict each other.`, "No rule allows both: whoever signed both lied. Such a report is what an audit goes by."];
@@ -60,5 +53,3 @@ function verdictTold(run) {
   if (run.ended.contradictions) return `The chain parts. At most ${faults} may lie, so at least ${faults + 1} have signed both sides, and the audit names ${list.length}: ${who || "nobody"}.`;
   return list.length ? `One chain. The audit names ${who}, and nobody else.` : "One chain, and the audit names nobody.";
 }
-
-if (typeof document === "undefined") module.exports = { told, verdictTold };

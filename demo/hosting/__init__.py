@@ -1,11 +1,12 @@
-"""A host for the program `simplex node`: it carries packets, plays the application, keeps the wakes and the reports.
+"""A host for the program `simplex_tool member FILE`: it carries packets, plays the application, keeps the wakes and the reports.
 
 It stands outside the proved core: nothing here is proved, and nothing of the core rests on it. docs/HOSTING.md says what a host
 has to keep true, by the functions of these modules. Read them in this order:
 
     wire          frames on a connection, and how a peer's name is made sure of
     links         the connections of one member to its peers
-    node          the program `simplex node` as a child, one event and one reply at a time
+    settings      how nodes are set up
+    node          the program `simplex_tool member FILE` as a child, one event and one reply at a time
     application   what is built, checked and accepted
     reports       the log of a member's reports
     pace          the time as a node is told it

@@ -4,18 +4,29 @@ import json
 import re
 import secrets
 import traceback
+from collections.abc import Mapping
+from dataclasses import dataclass
 from itertools import combinations
 from pathlib import Path
 from time import monotonic
+from types import MappingProxyType
 
 from member.positions import quorum
-from node_program import setup_of
 
+from . import settings
 from .host import LONGEST_STUCK, Host, Place
 from .lanes import BLOCKS, Board, Lane
 
 # Behind so many seconds without a final view a page says so, and why.
 SLOW = 6
+
+
+@dataclass(frozen=True)
+class Programs:
+    """What is run: `simplex` audits, `simplex_tool` runs the nodes."""
+
+    simplex: Path
+    tool: Path
 
 
 class Unwanted(Exception):
@@ -25,10 +36,13 @@ class Unwanted(Exception):
 class Committee:
     """Hosts of so many members, each with a folder of its own."""
 
-    def __init__(self, count: int, program: Path, said: str, folder: Path, pace: float) -> None:
-        """`said` is what is known of the program, for the page."""
-        self.count, self.program, self.said = count, program, said
-        self.board = Board(count, setup_of(0, count).terms)
+    def __init__(
+        self, count: int, programs: Programs, said: str, folder: Path, pace: float, set_up: Mapping[str, object] = MappingProxyType({})
+    ) -> None:
+        """`said` is what is known of the program that runs nodes, for the page; `set_up` how these are, beside what is each member's own."""
+        self.count, self.programs, self.said = count, programs, said
+        self.setup = settings.setup(set_up, 0, count)
+        self.board = Board(count, self.setup.terms)
         self.cuts: set[frozenset[int]] = set()
         self.audit_said: dict | None = None
         self.auditing, self.audits = False, 0
@@ -40,7 +54,9 @@ class Committee:
             own = folder / f"member-{me}"
             own.mkdir(parents=True, exist_ok=True)
             keys = {peer: pairs[frozenset((me, peer))] for peer in range(count) if peer != me}
-            self.places.append(Place(me, count, program, own, pace, keys, ports, self.cuts, self.board.watch, self.board.tell))
+            self.places.append(
+                Place(me, count, programs.tool, own, pace, keys, ports, self.cuts, self.board.watch, self.board.tell, set_up)
+            )
         self.hosts: dict[int, Host] = {}
         self.lives: dict[int, asyncio.Task] = {}
 
@@ -147,7 +163,7 @@ class Committee:
         reports = await asyncio.to_thread(lambda: list(dict.fromkeys(it for host in self.hosts.values() for it in host.log)))
         begun, pipe = monotonic(), asyncio.subprocess.PIPE
         child = await asyncio.create_subprocess_exec(
-            self.program, "audit", str(self.count), stdin=pipe, stdout=pipe, stderr=pipe, start_new_session=True
+            self.programs.simplex, "audit", str(self.count), stdin=pipe, stdout=pipe, stderr=pipe, start_new_session=True
         )
         try:
             output, error = await child.communicate(b"".join(reports))
@@ -178,7 +194,7 @@ class Committee:
         if seconds < SLOW:
             return ""
         view = self.board.highest
-        leader = setup_of(0, self.count).elect(view)
+        leader = self.setup.elect(view)
         why = "is down" if leader not in running else "is blocked" if leader not in speaking else "may be cut off, or just late"
         return f"nothing became final for {seconds:.0f} s. View {view} is led by member {leader}, which {why}: the others give its term up."
 
@@ -197,7 +213,7 @@ class Committee:
             "whole": whole, "count": self.count, "program": self.said, "quorum": quorum(self.count), "last": board.highest,
             "final": board.final, "seconds": monotonic() - self.begun, "standstill": still,
             "members": [self.shown_lane(me, lane, whole) for me, lane in enumerate(board.lanes)],
-            "leaders": {view: setup_of(0, self.count).elect(view) for view in news},
+            "leaders": {view: self.setup.elect(view) for view in news},
             "cuts": sorted(sorted(pair) for pair in self.cuts),
             "chain": [self.shown_block(view) for view in sorted(board.chain)[-BLOCKS:]],
             "disagreements": board.disagreements(), "lines": list(board.lines if whole else board.news),

@@ -12,13 +12,14 @@ from pathlib import Path
 
 from member.codec import Reader, certificate_bytes, vote_bytes, whole
 from member.scheme import PlainScheme
+from member.setup import Setup
 from member.values import (
     CERTIFICATE_CHANNEL, FINALIZATION, NOTARIZATION, NOTARIZE, NULLIFY, VOTE_CHANNEL, Block, Build, BuiltAnswer, Certificate,
     Certified, Certify, CheckedAnswer, Context, Finalized, Forward, Moment, Packet, Proposal, Reply, Report, Send, VerdictAnswer, Verify,
     Vote, Wake,
 )
-from node_program import setup_of
 
+from . import settings
 from .application import Application, said_in
 from .links import Links
 from .node import Ended, Node
@@ -29,8 +30,8 @@ from .wire import CONTENTS, Frame
 # Events that wait for the node; a packet that finds no room is lost.
 ROOM = 4096
 SETTLING = 1.0
-# A life in which no view was entered for so many seconds ends, for what a node lacks it asks for once in a life. So long at first and at
-# most: it doubles while it doesn't help.
+# A life in which no view was entered for so many seconds ends: behind an opening a node asks for all that it lacks, and its host tells all
+# again what its record has. So long at first and at most: it doubles while it doesn't help.
 STUCK, LONGEST_STUCK = 30.0, 600.0
 
 
@@ -49,6 +50,8 @@ class Place:
     cuts: set[frozenset[int]]
     watch: Callable[[int, object], None]
     tell: Callable[[str], None]
+    # how its node is set up, beside what is its own
+    settings: Mapping[str, object] = field(default_factory=dict)
     blocked: set[int] = field(default_factory=set)
     # the highest view that was entered, and how long a life without a new one lasts
     entered: int = 0
@@ -65,8 +68,12 @@ class Place:
         return ReportLog(self.folder / "reports", self.scheme.signature_size, self.count)
 
     @cached_property
+    def setup(self) -> Setup:
+        return settings.setup(self.settings, self.me, self.count)
+
+    @property
     def scheme(self) -> PlainScheme:
-        return setup_of(self.me, self.count).scheme
+        return self.setup.scheme
 
 
 class Stuck(Exception):
@@ -120,7 +127,7 @@ class Host:
         return told
 
     async def serve(self) -> None:
-        self.node = await Node.open(self.place.program, self.place.record, self.me, self.place.count)
+        self.node = await Node.open(self.place.program, self.place.record, self.me, self.place.count, self.place.settings)
         self.loop = asyncio.get_running_loop()
         self.clock = Clock(self.loop.time(), self.pace.slowness)
         self.entered = self.loop.time()
@@ -214,7 +221,7 @@ class Host:
                 self.place.watch(self.me, action)
 
     def term_of(self, view: int) -> int:
-        return setup_of(self.me, self.place.count).terms.index(view)
+        return self.place.setup.terms.index(view)
 
     def look_for_entry(self, activity: object) -> None:
         """A true verdict, a nullification or a finalization leads to a view, unless it is told anew behind an opening."""

@@ -1,16 +1,18 @@
-"""The program `simplex node` as a child of its host: one event goes in, its reply comes out, then the next.
+"""The program `simplex_tool member FILE` as a child of its host: one event goes in, its reply comes out, then the next.
 
-`node_program.Running` of tools/ does the same for trials, and blocks; here many nodes share one loop.
+`member_program.Member` of tools/ does the same for trials, and blocks; here many nodes share one loop.
 """
 import asyncio
 import contextlib
-from collections.abc import Callable
+from collections.abc import Callable, Mapping
 from pathlib import Path
+from types import MappingProxyType
 from typing import TypeVar
 
 from member.codec import Reader, Unreadable, event_bytes
 from member.values import Reply
-from node_program import setup_of
+
+from . import settings
 
 T = TypeVar("T")
 # Behind the end of its input a node rewrites its record and ends; one that doesn't is killed.
@@ -26,15 +28,16 @@ class Node:
     """A node over a record, from its opening to its end."""
 
     def __init__(self, child: asyncio.subprocess.Process, me: int, count: int) -> None:
-        scheme = setup_of(me, count).scheme
+        scheme = settings.setup({}, me, count).scheme
         self.child, self.reader = child, Reader(b"", scheme.signature_size, scheme.members)
 
     @classmethod
-    async def open(cls, program: Path, record: Path, me: int, count: int) -> "Node":
-        """Starts the program. The first reply that it writes is that of the opening, behind no event."""
+    async def open(cls, program: Path, record: Path, me: int, count: int, said: Mapping[str, object] = MappingProxyType({})) -> "Node":
+        """Starts the program by a file of these settings, which is written beside the record. The first reply that it writes is that of the
+        opening, behind no event."""
         pipe = asyncio.subprocess.PIPE
         child = await asyncio.create_subprocess_exec(
-            program, "node", str(record), str(me), str(count), stdin=pipe, stdout=pipe, stderr=pipe,
+            program, "member", settings.write(said, record, me, count), stdin=pipe, stdout=pipe, stderr=pipe,
             start_new_session=True,  # Ctrl-C is for the host, which then ends its nodes
         )
         return cls(child, me, count)

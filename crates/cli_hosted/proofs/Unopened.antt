@@ -1,5 +1,5 @@
 -- Why no node was opened over bytes, by what is told of the disks over them.
-use Rattle.std.proofs.Common.{◌≡◌, ◌⊎◌, inl, inr, ⊎_elim, ◌+◌, ◌-◌, ◌<◌, ◌^◌, ◌∙◌, ◌++◌, ap, arith, drop, drop_at, length, length-append, refl, subst, sym, ℕ, List, [], ◌∷◌, Option, None, Some}
+use Rattle.std.proofs.Common.{◌≡◌, ◌⊎◌, inl, inr, ⊎_elim, ◌+◌, ◌-◌, ◌^◌, ◌∙◌, ◌++◌, ap, append_assoc, arith, drop, drop_at, length, length-append, refl, subst, sym, ℕ, List, [], Option, None, Some}
 use Rattle.std.specs.Prelude.{Result, Ok, Err, IfErr, map, All}
 use Rattle.std.proofs.lemmas.List.Elements.{All-weaker}
 use Rattle.types_core.specs.declared.scheme.Scheme.{Ghosts}
@@ -8,13 +8,13 @@ use Rattle.types_terms.specs.declared.elector.Elector as elector
 use Rattle.voter_rules.specs.declared.config.Config.{Config}
 use Rattle.voter_rules.specs.declared.floor.Floor.{Floor}
 use Rattle.journal_single.specs.declared.disk.Disk as disk
-use Rattle.journal_single.specs.Record.{FitsBelow, IsFound, IsForeign, Reads}
+use Rattle.journal_single.specs.Record.{FitsBelow, IsForeign, Reads}
 use Rattle.simplex_journal.specs.Generation.{IsGeneration, IsOf, IsNumber}
-use Rattle.simplex_journal.specs.Reading.{IsForeignOf, IsForeignPair, IsHead, ReadsAs, ReadsPair}
+use Rattle.simplex_journal.specs.Reading.{IsForeignOf, IsHead, ReadsAs}
 use Rattle.journal_books.specs.declared.disks.Disks.{Disks}
 use Rattle.journal_books.specs.declared.disks.Disks.TheVariants.{One, Two}
-use Rattle.journal_books.specs.Books.{AreRead, IsForeignOn}
-use Rattle.node_record.specs.Ledger.{AreFoundOn, IsContradiction}
+use Rattle.journal_books.specs.Books.{IsForeignOn}
+use Rattle.node_record.specs.Ledger.{IsContradiction}
 use Rattle.node_steps.specs.Opening.{HasOpened, IsUnopened}
 use Rattle.simplex_record.specs.declared.owner.Owner.{Owner}
 use Rattle.simplex_record.specs.Lawful.{IsRefusedAt}
@@ -124,7 +124,7 @@ module _ (base : List ℕ) (count : ℕ) (owner : Owner) where
           rest = was.rest;
           left = record {
             front = was.left.front;
-            split = ap (λ (l : List ℕ). drop (length is.head) l) was.left.split ∙ drop_at is.head (was.left.front ++ was.rest) (length is.head) refl;
+            split = ap (λ (l : List ℕ). drop (length is.head) l) (was.left.split ∙ append_assoc is.head was.left.front was.rest) ∙ drop_at is.head (was.left.front ++ was.rest) (length is.head) refl;
             entries = was.left.entries;
             gate = was.left.gate;
           };

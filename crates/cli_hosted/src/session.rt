@@ -1,6 +1,6 @@
 //! A member's node between two calls.
 
-ghost use Rattle.std.specs.Prelude.{◌≡◌, ◌<◌, ◌≤◌, ◌++◌, ◌⊎◌, ℕ, [], Err, IfErr, IfOk, IsErrOf, None, Ok, OnErr, OnOk, Some, false, length, true};
+ghost use Rattle.std.specs.Prelude.{◌≡◌, ◌<◌, ◌≤◌, ◌⊎◌, ℕ, [], Err, IfErr, IfOk, IsErrOf, None, Ok, OnErr, OnOk, Some, false, length, true};
 ghost use Rattle.std.specs.Option.{option_copied};
 ghost use Rattle.cli_calls.specs.Told.{AreTaken, WaitOn};
 ghost use Rattle.cli_settings.specs.Building.{config_of};

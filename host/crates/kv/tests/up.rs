@@ -24,15 +24,20 @@ fn top() -> PathBuf {
     Path::new(env!("CARGO_MANIFEST_DIR")).join("../../..")
 }
 
-/// The program `simplex`: that of `VOUMLIS_PROGRAM`, or a proved one.
-fn program() -> PathBuf {
-    let proved = top().join("crates/simplex/out/simplex");
-    let program = std::env::var_os("VOUMLIS_PROGRAM").map_or(proved, PathBuf::from);
+/// A program: the one that this variable names, the one beside that of `VOUMLIS_PROGRAM`, or a proved one.
+fn program(variable: &str, name: &str) -> PathBuf {
+    if let Some(named) = std::env::var_os(variable) {
+        return named.into();
+    }
+    let simplex = std::env::var_os("VOUMLIS_PROGRAM").map(PathBuf::from);
+    let beside = simplex.map(|it| it.with_file_name(name));
+    let proved = top().join("crates").join(name).join("out").join(name);
+    let found = beside.filter(|it| it.exists()).unwrap_or(proved);
     assert!(
-        program.exists(),
-        "name a program simplex in VOUMLIS_PROGRAM: host/program builds one, and prints its path"
+        found.exists(),
+        "name a program {name} in {variable}: host/program {name} builds one, and prints its path"
     );
-    program
+    found
 }
 
 fn until<T>(what: &str, mut look: impl FnMut() -> Option<T>) -> T {
@@ -74,7 +79,8 @@ impl Up {
             .env("VOUMLIS_FOLDER", folder.path().join("committee"))
             .env("VOUMLIS_PORT", free_ports().to_string())
             .env("VOUMLIS_MEMBER", env!("CARGO_BIN_EXE_kv"))
-            .env("VOUMLIS_PROGRAM", program())
+            .env("VOUMLIS_PROGRAM", program("VOUMLIS_PROGRAM", "simplex"))
+            .env("VOUMLIS_TOOL", program("VOUMLIS_TOOL", "simplex_tool"))
             .env("VOUMLIS_PATIENCE", patience().as_secs().to_string())
             .stdout(Stdio::piped())
             .spawn()

@@ -20,8 +20,10 @@ pub struct Programs {
     pub kv: PathBuf,
     /// The same, that lies.
     pub liar: PathBuf,
-    /// The node.
+    /// The audit.
     pub simplex: PathBuf,
+    /// The node.
+    pub tool: PathBuf,
 }
 
 /// How a liar lies.
@@ -128,6 +130,8 @@ impl Committee {
         let made = Command::new(&programs.kv)
             .args(["init", "--members", &size.to_string(), "--program"])
             .arg(&programs.simplex)
+            .arg("--tool")
+            .arg(&programs.tool)
             .arg(folder)
             .output()
             .with_context(|| programs.kv.display().to_string())?;

@@ -64,9 +64,12 @@ struct Run {
     /// Where all of it is kept: a folder for each seed, with the members' files where something was found.
     #[arg(long)]
     folder: PathBuf,
-    /// The program `simplex`.
+    /// The program `simplex`, for audits.
     #[arg(long)]
     simplex: PathBuf,
+    /// The program `simplex_tool`, which runs the nodes; else the one beside `simplex`.
+    #[arg(long)]
+    tool: Option<PathBuf>,
     /// The folder of the programs `kv` and `liar`; else that of this program.
     #[arg(long)]
     programs: Option<PathBuf>,
@@ -82,12 +85,19 @@ impl Run {
                 .context("this program is in a folder")?
                 .to_owned(),
         };
+        let beside = self.simplex.with_file_name("simplex_tool");
         let programs = Programs {
             kv: folder.join("kv"),
             liar: folder.join("liar"),
             simplex: self.simplex.clone(),
+            tool: self.tool.clone().unwrap_or(beside),
         };
-        for program in [&programs.kv, &programs.liar, &programs.simplex] {
+        for program in [
+            &programs.kv,
+            &programs.liar,
+            &programs.simplex,
+            &programs.tool,
+        ] {
             if !program.exists() {
                 bail!("there is no program {}", program.display());
             }

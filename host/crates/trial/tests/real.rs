@@ -7,18 +7,21 @@ use trial::plant::Fault;
 use trial::random::Random;
 use trial::run::{self, Plan};
 
-/// The program `simplex`: that of `VOUMLIS_PROGRAM`, a proved one, or the one that host/program builds.
-fn simplex() -> PathBuf {
-    if let Some(named) = std::env::var_os("VOUMLIS_PROGRAM") {
+/// A program: the one that this variable names, the one beside that of `VOUMLIS_PROGRAM`, or a proved one.
+fn program(variable: &str, name: &str) -> PathBuf {
+    if let Some(named) = std::env::var_os(variable) {
         return named.into();
     }
+    let simplex = std::env::var_os("VOUMLIS_PROGRAM").map(PathBuf::from);
+    let beside = simplex.map(|it| it.with_file_name(name));
     let top = Path::new(env!("CARGO_MANIFEST_DIR")).join("../../..");
-    let proved = top.join("crates/simplex/out/simplex");
+    let proved = top.join("crates").join(name).join("out").join(name);
+    let found = beside.filter(|it| it.exists()).unwrap_or(proved);
     assert!(
-        proved.exists(),
-        "name a program simplex in VOUMLIS_PROGRAM: host/program builds one, and prints its path"
+        found.exists(),
+        "name a program {name} in {variable}: host/program {name} builds one, and prints its path"
     );
-    proved
+    found
 }
 
 #[tokio::test(flavor = "multi_thread")]
@@ -37,7 +40,8 @@ async fn a_committee_with_a_liar_serves_its_clients_and_convicts_it() {
         programs: Programs {
             kv: member.clone(),
             liar: member,
-            simplex: simplex(),
+            simplex: program("VOUMLIS_PROGRAM", "simplex"),
+            tool: program("VOUMLIS_TOOL", "simplex_tool"),
         },
     };
     let outcome = run::run(&plan).await.unwrap();

@@ -1,5 +1,6 @@
 //! Who the members are: their public keys in order, and the secret key of one.
 
+use crate::member::NodeSettings;
 use crate::plain::sha256;
 use crate::wire::Attestation;
 use anyhow::{Context, Result, bail, ensure};
@@ -20,24 +21,29 @@ pub type Signature = [u8; 64];
 /// What stands before all that a key signs: no signature of another use of the key counts here, nor one from here there.
 const SIGNED: &[u8] = b"voumlis 1";
 
-/// The members' keys in order, with the epoch and genesis that they are set up with.
+/// The members' keys in order, with what all of them are set up with alike.
 #[derive(Clone, Debug, PartialEq, Eq)]
 pub struct Committee {
     keys: Vec<PublicKey>,
     hash: [u8; 32],
 }
 
-/// What the program `simplex` is set up with; other settings aren't to be had yet.
-const EPOCH: u64 = 0;
-const GENESIS: [u8; 32] = [0; 32];
-
 impl Committee {
-    /// The committee of these keys.
+    /// The committee of these keys, set up as where nothing is said.
+    ///
+    /// # Errors
+    ///
+    /// As of [`Committee::set_up`].
+    pub fn new(keys: Vec<PublicKey>) -> Result<Committee> {
+        Committee::set_up(keys, &NodeSettings::default())
+    }
+
+    /// The committee of these keys, whose nodes are set up so. What may differ from member to member counts for nothing here.
     ///
     /// # Errors
     ///
     /// Where there are none, more than 65,535, or one twice.
-    pub fn new(keys: Vec<PublicKey>) -> Result<Committee> {
+    pub fn set_up(keys: Vec<PublicKey>, node: &NodeSettings) -> Result<Committee> {
         ensure!(!keys.is_empty(), "a committee has a member");
         ensure!(keys.len() <= 65_535, "more than 65535 members");
         let distinct: HashSet<&PublicKey> = keys.iter().collect();
@@ -50,8 +56,9 @@ impl Committee {
             b"voumlis committee 1",
             &(keys.len() as u32).to_be_bytes(),
             &listed,
-            &EPOCH.to_be_bytes(),
-            &GENESIS,
+            &node.epoch.to_be_bytes(),
+            &node.genesis,
+            &node.alike(),
         ]);
         Ok(Committee { keys, hash })
     }
@@ -77,8 +84,8 @@ impl Committee {
         Some(place as u32)
     }
 
-    /// What stands for keys, their order, epoch and genesis: a part of all that is signed, so nothing that was signed for one committee
-    /// counts in another.
+    /// What stands for keys, their order, and what the nodes are set up with alike: a part of all that is signed, so nothing that was signed
+    /// for one committee counts in another.
     pub fn hash(&self) -> &[u8; 32] {
         &self.hash
     }
@@ -227,6 +234,30 @@ mod tests {
         )
         .unwrap();
         assert!(!swapped.verifies(&another(3, [7; 32]), &signature));
+    }
+
+    #[test]
+    fn what_is_to_be_alike_makes_another_committee_and_what_may_differ_none() {
+        let keys: Vec<PublicKey> = keys(4).iter().map(SecretKey::public).collect();
+        let set_up = |change: fn(&mut NodeSettings)| {
+            let mut node = NodeSettings::default();
+            change(&mut node);
+            *Committee::set_up(keys.clone(), &node).unwrap().hash()
+        };
+        let usual = *Committee::new(keys.clone()).unwrap().hash();
+        assert_eq!(set_up(|node| node.leader_timeout = 7), usual);
+        assert_eq!(set_up(|node| node.rewrite_views = 0), usual);
+        assert_ne!(set_up(|node| node.epoch = 1), usual);
+        assert_ne!(set_up(|node| node.term_length = 5), usual);
+        // As it was before settings could be chosen: what was signed then counts.
+        let listed = keys.concat();
+        let parts = [
+            &b"voumlis committee 1"[..],
+            &[0, 0, 0, 4],
+            &listed,
+            &[0; 40],
+        ];
+        assert_eq!(sha256(&parts), usual);
     }
 
     #[test]

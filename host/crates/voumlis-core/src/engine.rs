@@ -10,7 +10,7 @@ use crate::envelope::{Opened, Sealer};
 use crate::frame::Frame;
 use crate::growth::{Growth, REWRITTEN_FROM};
 use crate::inbox::{Inbox, Input};
-use crate::member::{Member, NotYet, Open, Rewriting};
+use crate::member::{Member, NodeSettings, NotYet, Open, Rewriting};
 use crate::metrics::{Metrics, Status};
 use crate::network::{Current, Letter, Network};
 use crate::pace::{Clock, Pace, PaceSettings};
@@ -30,11 +30,10 @@ use tracing::{debug, info, trace, warn};
 /// How many events are handed in before the disk is synced and the replies are carried out.
 const BATCH: usize = 32;
 
-/// The views of a term, as the program `simplex` is set up.
-const TERM: u64 = 4;
-
-/// How many views ahead a node listens at most: up to the second one of the term behind the next.
-pub const LISTENS_AHEAD: u64 = 2 * TERM + 1;
+/// How many views ahead a node listens at most, in terms of so many views: up to the second one of the term behind the next.
+pub fn listens_ahead(term: u64) -> u64 {
+    2 * term + 1
+}
 
 /// How exactly the time is told, in milliseconds. Each telling costs the node a step.
 const BEAT: u64 = 5;
@@ -45,15 +44,17 @@ const PRUNING: u64 = 64;
 /// How the loop is set up.
 #[derive(Clone, Debug)]
 pub struct EngineSettings {
-    /// The record is opened again where no view was entered for so long, of the time that the node is told: what a node lacks it asks for
-    /// once in a life.
+    /// The record is opened again where no view was entered for so long, of the time that the node is told: behind an opening all that it
+    /// lacks is asked for, and what it has goes to all again.
     pub reopen_after: Duration,
     /// The longest time before an opening, however often one didn't help and however slow the time is told.
     pub reopen_at_most: Duration,
     /// How slow the time may be told.
     pub pace: PaceSettings,
-    /// The record is rewritten where it has doubled, and has so many bytes at least.
+    /// A record that its node doesn't rewrite of itself is rewritten where it has doubled, and has so many bytes at least.
     pub rewritten_from: u64,
+    /// The views of a term, as the node is set up.
+    pub term: u64,
 }
 
 impl Default for EngineSettings {
@@ -63,13 +64,16 @@ impl Default for EngineSettings {
             reopen_at_most: Duration::from_secs(600),
             pace: PaceSettings::default(),
             rewritten_from: REWRITTEN_FROM,
+            term: NodeSettings::default().term_length.into(),
         }
     }
 }
 
-/// The term of a view, from 0 on.
-fn term_of(view: u64) -> u64 {
-    view.saturating_sub(1) / TERM
+impl EngineSettings {
+    /// The term of a view, from 0 on.
+    fn term_of(&self, view: u64) -> u64 {
+        view.saturating_sub(1) / self.term
+    }
 }
 
 /// A member's loop.
@@ -287,7 +291,9 @@ impl Engine {
             if self.has_grown(life)? {
                 return Ok(Ended::Grown);
             }
-            let early = life.early.due(life.entered, LISTENS_AHEAD);
+            let early = life
+                .early
+                .due(life.entered, listens_ahead(self.settings.term));
             if !early.is_empty() {
                 self.step_all(life, early)?;
                 continue;
@@ -322,6 +328,10 @@ impl Engine {
         }
         match life.node.rewrite().context("the record isn't rewritten")? {
             Rewriting::AtItsEnd => Ok(true),
+            Rewriting::OfItself => {
+                life.growth.begin(self.record_bytes(&*life.node)?);
+                Ok(false)
+            }
             Rewriting::Done(view) => {
                 life.growth.begin(self.record_bytes(&*life.node)?);
                 if let Some(view) = view {
@@ -480,7 +490,7 @@ impl Engine {
             .change(|state| state.finalized = state.finalized.max(id));
         self.metrics.finalized.set(view as i64);
         self.network.finalized(view);
-        if life.has_begun && life.pace.finalized(term_of(view)) {
+        if life.has_begun && life.pace.finalized(self.settings.term_of(view)) {
             self.tell_pace(life, "faster", "views are final");
         }
         if view >= life.pruned + PRUNING {
@@ -497,8 +507,8 @@ impl Engine {
             life.recorded.insert((certificate.kind, certificate.on));
         }
         self.enter(life, &report);
-        if life.has_begun && self.is_given_up(&report) && life.pace.gave_up(term_of(report.view()))
-        {
+        let term = self.settings.term_of(report.view());
+        if life.has_begun && self.is_given_up(&report) && life.pace.gave_up(term) {
             self.tell_pace(life, "slower", "views were given up again and again");
         }
         if self.reports.has(&plain, &report) {
@@ -552,10 +562,10 @@ impl Engine {
             Report::Certified(_) => view.saturating_add(1),
             Report::Certificate(certificate) => match certificate.kind {
                 VoteKind::Finalize => view.saturating_add(1),
-                VoteKind::Nullify => term_of(view)
-                    .saturating_add(1)
-                    .saturating_mul(TERM)
-                    .saturating_add(1),
+                VoteKind::Nullify => {
+                    let terms = self.settings.term_of(view).saturating_add(1);
+                    terms.saturating_mul(self.settings.term).saturating_add(1)
+                }
                 VoteKind::Notarize => return,
             },
             Report::Vote(_) | Report::Evidence(..) => return,

@@ -10,10 +10,12 @@ use std::path::{Path, PathBuf};
 mod child;
 #[cfg(feature = "library")]
 mod library;
+mod settings;
 
 pub use child::Child;
 #[cfg(feature = "library")]
 pub use library::Library;
+pub use settings::{Forwarding, NodeSettings, Repair, file_beside};
 
 /// A node that was opened. What a reply says is in the record when the reply is there.
 pub trait Member {
@@ -53,6 +55,8 @@ pub enum Rewriting {
     Done(Option<u64>),
     /// Nothing yet: it rewrites its record where it is let go, and that is then to be opened again.
     AtItsEnd,
+    /// Nothing: by its settings it rewrites its record of itself, once so many views more are final.
+    OfItself,
 }
 
 /// The path of a record's second file.

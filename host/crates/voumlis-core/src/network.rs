@@ -70,7 +70,7 @@ impl Current {
                 }
                 kept.others.push_back(letter.clone());
             }
-            // It is asked once, and sent until it arrives.
+            // It is sent until it arrives, and its node asks again where no answer comes.
             Message::Fetch(_) => {}
         }
     }

@@ -6,30 +6,45 @@
 fn the_library_answers_as_the_child_does() {}
 
 #[cfg(feature = "library")]
+mod common;
+
+#[cfg(feature = "library")]
 mod there {
+    use super::common::tool;
     use std::collections::VecDeque;
-    use std::path::{Path, PathBuf};
-    use voumlis_core::member::{Child, Library, Member, NotYet, Rewriting, second_path};
+    use std::path::Path;
+    use voumlis_core::member::{
+        Child, Library, Member, NodeSettings, NotYet, Rewriting, second_path,
+    };
     use voumlis_core::plain::{BASE, attestation};
     use voumlis_core::wire::{
         Action, Attestation, Channel, Event, On, Reply, Round, Vote, VoteKind,
     };
 
-    /// The program `simplex`: that of `VOUMLIS_PROGRAM`, or a proved one.
-    fn program() -> PathBuf {
-        let top = Path::new(env!("CARGO_MANIFEST_DIR")).join("../../..");
-        let proved = top.join("crates/simplex/out/simplex");
-        std::env::var_os("VOUMLIS_PROGRAM").map_or(proved, PathBuf::from)
-    }
-
-    fn child(record: &Path, members: u32) -> (Box<dyn Member>, Reply) {
-        let (child, first) = Child::open(&program(), record, 0, members).unwrap();
+    fn child(record: &Path, members: u32, of: &NodeSettings) -> (Box<dyn Member>, Reply) {
+        let (child, first) = Child::open(&tool(), record, 0, members, of).unwrap();
         (Box::new(child), first)
     }
 
-    fn library(record: &Path, members: u16) -> (Box<dyn Member>, Reply) {
-        let (library, first) = Library::open(record, 0, members).unwrap();
+    fn library(record: &Path, members: u32, of: &NodeSettings) -> (Box<dyn Member>, Reply) {
+        let (library, first) = Library::open(record, 0, members, of).unwrap();
         (Box::new(library), first)
+    }
+
+    /// Settings of which each is another than where nothing is said, but what a record has to be of.
+    fn others() -> NodeSettings {
+        let text = "epoch = 0\nterm-length = 4\nstall-timeout = 9000\noptimistic-views = 1\nseed = \"c0ffee\"\nleader-timeout = 900\n\
+            certification-timeout = 1800\nretry-timeout = 3000\nretention = 9\nskip-timeout = 7000\nskip-budget = 3\n\
+            forwarding = \"silent-voters\"\nrepair = \"once\"\nrepair-window = 0\nhistorical-votes = false\nrewrite-views = 10";
+        toml::from_str(text).unwrap()
+    }
+
+    /// As where nothing is said, but that the host decides when the record is rewritten.
+    fn rewritten_by_hosts() -> NodeSettings {
+        NodeSettings {
+            rewrite_views: 0,
+            ..NodeSettings::default()
+        }
     }
 
     /// What both files of a record hold.
@@ -96,11 +111,17 @@ mod there {
 
     #[test]
     fn the_library_answers_as_the_child_does() {
+        for settings in [NodeSettings::default(), others()] {
+            answer_alike(&settings);
+        }
+    }
+
+    fn answer_alike(settings: &NodeSettings) {
         let folder = tempfile::tempdir().unwrap();
         let (one, other) = (folder.path().join("one"), folder.path().join("other"));
-        let (node, first) = child(&one, 4);
+        let (node, first) = child(&one, 4, settings);
         let by_child = play(node, first);
-        let (node, first) = library(&other, 4);
+        let (node, first) = library(&other, 4, settings);
         let by_library = play(node, first);
         assert_eq!(by_library, by_child);
         assert!(by_child.iter().any(|reply| reply.refused != 0));
@@ -110,9 +131,9 @@ mod there {
         assert_eq!(records[0], records[1]);
 
         // Each opens what the other left.
-        let (node, by_child) = child(&other, 4);
+        let (node, by_child) = child(&other, 4, settings);
         node.close().unwrap();
-        let (node, by_library) = library(&one, 4);
+        let (node, by_library) = library(&one, 4, settings);
         node.close().unwrap();
         assert_eq!(by_library, by_child);
     }
@@ -172,7 +193,8 @@ mod there {
     fn the_library_rewrites_a_record_while_it_runs_and_the_child_at_its_end() {
         let folder = tempfile::tempdir().unwrap();
         let record = folder.path().join("record");
-        let (mut node, first) = library(&record, 1);
+        let settings = rewritten_by_hosts();
+        let (mut node, first) = library(&record, 1, &settings);
         reach(&mut *node, &first, 40);
         let [long, nothing] = node.record_bytes().unwrap();
         assert_eq!(nothing, 0);
@@ -186,14 +208,14 @@ mod there {
         node.close().unwrap();
 
         // The child goes on from there, and has the first file again behind its end.
-        let (mut node, first) = child(&record, 1);
+        let (mut node, first) = child(&record, 1, &settings);
         assert_eq!(last(&first), view);
         assert_eq!(node.rewrite().unwrap(), Rewriting::AtItsEnd);
         reach(&mut *node, &first, view + 40);
         let [same, grown] = node.record_bytes().unwrap();
         assert!(same == long && grown > 4 * short);
         node.close().unwrap();
-        let (node, first) = library(&record, 1);
+        let (node, first) = library(&record, 1, &settings);
         assert!(last(&first) >= view + 40);
         let [short, same] = node.record_bytes().unwrap();
         assert!(same == grown && short < long / 4);
@@ -201,15 +223,41 @@ mod there {
     }
 
     #[test]
+    fn the_library_rewrites_a_record_of_itself_as_the_child_does() {
+        let folder = tempfile::tempdir().unwrap();
+        let settings = NodeSettings {
+            rewrite_views: 10,
+            ..NodeSettings::default()
+        };
+        let stored = ["child", "library"].map(|name| {
+            let record = folder.path().join(name);
+            let (mut node, first) = match name {
+                "child" => child(&record, 1, &settings),
+                _ => library(&record, 1, &settings),
+            };
+            reach(&mut *node, &first, 40);
+            assert_eq!(node.rewrite().unwrap(), Rewriting::OfItself);
+            // What is behind the last reply is done before the next.
+            node.step(&Event::Moment(1 << 40)).unwrap();
+            stored(&record)
+        });
+        assert_eq!(stored[0], stored[1]);
+        // A file that a rewrite wrote begins with a head.
+        assert!(stored[0].iter().all(|file| file.len() > 9 && file[0] == 2));
+    }
+
+    #[test]
     fn a_record_that_a_library_has_is_opened_by_no_other() {
         let folder = tempfile::tempdir().unwrap();
         let record = folder.path().join("record");
-        let (node, _) = library(&record, 4);
-        let second = Library::open(&record, 0, 4).err().unwrap();
+        let settings = NodeSettings::default();
+        let (node, _) = library(&record, 4, &settings);
+        let second = Library::open(&record, 0, 4, &settings).err().unwrap();
         assert!(second.is::<NotYet>(), "{second:#}");
-        let second = Child::open(&program(), &record, 0, 4).err().unwrap();
+        let second = Child::open(&tool(), &record, 0, 4, &settings);
+        let second = second.err().unwrap();
         assert!(second.is::<NotYet>(), "{second:#}");
         node.close().unwrap();
-        library(&record, 4).0.close().unwrap();
+        library(&record, 4, &settings).0.close().unwrap();
     }
 }

@@ -1,22 +1,11 @@
-//! Which views the program `simplex` listens to: what the loop takes for granted of it.
+//! Which views a node listens to: what the loop takes for granted of it.
 
-use std::path::{Path, PathBuf};
-use voumlis_core::engine::LISTENS_AHEAD;
-use voumlis_core::member::{Child, Member};
+mod common;
+
+use voumlis_core::engine::listens_ahead;
+use voumlis_core::member::{Child, Member, NodeSettings};
 use voumlis_core::plain::{BASE, attestation};
 use voumlis_core::wire::{Attestation, Channel, Event, On, Reply, Round, Vote, VoteKind};
-
-/// The program `simplex`: that of `VOUMLIS_PROGRAM`, or a proved one.
-fn program() -> PathBuf {
-    let top = Path::new(env!("CARGO_MANIFEST_DIR")).join("../../..");
-    let proved = top.join("crates/simplex/out/simplex");
-    let program = std::env::var_os("VOUMLIS_PROGRAM").map_or(proved, PathBuf::from);
-    assert!(
-        program.exists(),
-        "name a program simplex in VOUMLIS_PROGRAM: host/program builds one, and prints its path"
-    );
-    program
-}
 
 fn nullify(view: u64, signer: u32) -> Event {
     let on = On::Round(Round { epoch: 0, view });
@@ -36,17 +25,29 @@ fn nullify(view: u64, signer: u32) -> Event {
 
 #[test]
 fn the_program_refuses_a_vote_that_comes_early_and_takes_it_where_it_has_gone_on() {
-    let folder = tempfile::tempdir().unwrap();
-    let (mut node, _) = Child::open(&program(), &folder.path().join("record"), 0, 4).unwrap();
-    let mut say = |view, signer| node.step(&nullify(view, signer)).unwrap();
-    let is_taken = |reply: &Reply| reply.refused == 0;
-    // It stands at view 1, in the first term.
-    assert!(is_taken(&say(1 + LISTENS_AHEAD, 1)));
-    assert!(say(2 + LISTENS_AHEAD, 1).is_of_views_apart());
-    assert!(say(7, 1).is_of_views_apart());
-    for signer in 1..4 {
-        assert!(is_taken(&say(1, signer)));
+    for term in [4, 1, 7] {
+        let folder = tempfile::tempdir().unwrap();
+        let record = folder.path().join("record");
+        let settings = NodeSettings {
+            term_length: term,
+            ..NodeSettings::default()
+        };
+        let (mut node, _) = Child::open(&common::tool(), &record, 0, 4, &settings).unwrap();
+        let mut say = |view, signer| node.step(&nullify(view, signer)).unwrap();
+        let is_taken = |reply: &Reply| reply.refused == 0;
+        let ahead = listens_ahead(term.into());
+        // It stands at view 1, in the first term.
+        assert!(is_taken(&say(1 + ahead, 1)), "terms of {term}");
+        assert!(say(2 + ahead, 1).is_of_views_apart(), "terms of {term}");
+        if term < 4 {
+            continue;
+        }
+        let later = u64::from(term) + 3;
+        assert!(say(later, 1).is_of_views_apart());
+        for signer in 1..4 {
+            assert!(is_taken(&say(1, signer)));
+        }
+        // It stands at the first view of the next.
+        assert!(is_taken(&say(later, 1)));
     }
-    // It stands at view 5.
-    assert!(is_taken(&say(7, 1)));
 }

@@ -1,20 +1,22 @@
 //! What is said on the command line.
 
 use crate::member::{self, Service};
-use crate::settings::{Limits, Members, Paces, Place, SETTINGS, Settings, Times};
+use crate::settings::{self, Limits, Members, Paces, Place, RECORD, SETTINGS, Settings, Times};
 use anyhow::{Context, Result, bail, ensure};
 use clap::{Parser, Subcommand};
 use std::fs;
 use std::net::{IpAddr, Ipv4Addr, SocketAddr};
 use std::os::unix::fs::DirBuilderExt;
 use std::path::{Path, PathBuf};
-use std::process::ExitCode;
+use std::process::{self, ExitCode, Output, Stdio};
 use tracing::{Level, warn};
 use tracing_subscriber::filter::Targets;
 use tracing_subscriber::layer::{Layer as _, SubscriberExt as _};
 use tracing_subscriber::{fmt, util::SubscriberInitExt as _};
 use voumlis_core::committee::{Committee, SecretKey};
 use voumlis_core::judge::{Judgement, judge};
+use voumlis_core::member::NodeSettings;
+use voumlis_core::plain::BASE;
 use voumlis_core::reports::{SignedReport, aside, read_all};
 
 /// One member of a committee, over a record on a disk.
@@ -45,9 +47,15 @@ enum Command {
         /// The first port: of each member one for peers, and behind all of these one for HTTP.
         #[arg(long, default_value_t = 7100)]
         port: u16,
-        /// The program `simplex`.
+        /// The program `simplex`, for audits.
         #[arg(long)]
         program: PathBuf,
+        /// The program `simplex_tool`, which runs the nodes; else the one beside `simplex`.
+        #[arg(long)]
+        tool: Option<PathBuf>,
+        /// A file of settings, as `simplex_tool settings` reads it, by which all nodes are set up.
+        #[arg(long)]
+        node: Option<PathBuf>,
         /// Have the node as the library in the process.
         #[arg(long)]
         library: bool,
@@ -132,6 +140,8 @@ fn carry_out(
             host,
             port,
             program,
+            tool,
+            node,
             library,
             applications,
         } => {
@@ -141,18 +151,26 @@ fn carry_out(
                 first,
                 applications,
             };
-            init(&folder, members, &ports, &program, library)?;
+            let nodes = Nodes {
+                program,
+                tool,
+                file: node,
+                library,
+            };
+            init(&folder, members, &ports, &nodes)?;
         }
         Command::Check { folder } => check(&folder)?,
         Command::Run { folder } => member::run(&folder, make)?,
         Command::Status { folder } => println!("{}", status(&folder)?),
         Command::Judge { mut files, program } => {
             let members = files.pop().context("a file that lists the members")?;
-            let committee = Members::read(&members)?.committee()?;
-            return judged(&committee, &files, &program);
+            let members = Members::read(&members)?;
+            audits_over(&members.node)?;
+            return judged(&members.committee()?, &files, &program);
         }
         Command::Audit { folders } => {
             let settings = Settings::read(&folders[0])?;
+            audits_over(&settings.node)?;
             let logs = folders.iter().map(|one| one.join("reports"));
             let files: Vec<PathBuf> = logs
                 .flat_map(|log| [Some(aside(&log)).filter(|old| old.exists()), Some(log)])
@@ -206,9 +224,27 @@ impl Ports {
     }
 }
 
-fn init(folder: &Path, members: u16, ports: &Ports, program: &Path, library: bool) -> Result<()> {
+/// What runs the nodes of a new committee, and how they are set up.
+struct Nodes {
+    program: PathBuf,
+    tool: Option<PathBuf>,
+    file: Option<PathBuf>,
+    library: bool,
+}
+
+/// The whole path of a file that is there.
+fn whole(path: &Path) -> Result<PathBuf> {
+    fs::canonicalize(path).with_context(|| path.display().to_string())
+}
+
+fn init(folder: &Path, members: u16, ports: &Ports, nodes: &Nodes) -> Result<()> {
     ensure!(members > 0, "a committee has a member");
-    let program = fs::canonicalize(program).with_context(|| program.display().to_string())?;
+    let program = whole(&nodes.program)?;
+    let tool = nodes.tool.as_deref().map(whole).transpose()?;
+    let node = match &nodes.file {
+        Some(file) => settings::node_of(file)?,
+        None => NodeSettings::default(),
+    };
     fs::create_dir_all(folder)?;
     ensure!(
         fs::read_dir(folder)?.next().is_none(),
@@ -232,19 +268,33 @@ fn init(folder: &Path, members: u16, ports: &Ports, program: &Path, library: boo
             listen: place.address,
             http: ports.http(u32::from(members) + member as u32)?,
             program: program.clone(),
-            library,
+            tool: tool.clone(),
+            library: nodes.library,
             application: ports.application(member as u32)?,
+            node: node.clone(),
+            named: None,
             limits: Limits::default(),
             times: Times::default(),
             pace: Paces::default(),
             members: places.clone(),
         };
+        if member == 0 && !nodes.library && !settings.tool().exists() {
+            let tool = settings.tool();
+            eprintln!(
+                "warning: there is no program {}: --tool names one",
+                tool.display()
+            );
+        }
         settings.write(&folder.join(format!("member-{member}")))?;
         // They are the same for all.
         let warnings = settings.warnings().into_iter().filter(|_| member == 0);
         warnings.for_each(|told| eprintln!("warning: {told}"));
     }
-    let listed = toml::to_string(&Members { members: places })?;
+    let members_of = Members {
+        node,
+        members: places,
+    };
+    let listed = toml::to_string(&members_of)?;
     fs::write(folder.join("committee.toml"), listed)?;
     println!("{members} members in {}: run each with", folder.display());
     println!(
@@ -261,6 +311,8 @@ fn check(folder: &Path) -> Result<()> {
     let key = SecretKey::read(&settings.key)?;
     let me = committee.member_of(&key.public());
     let me = me.with_context(|| format!("{} is no member's key", settings.key.display()))?;
+    settings.check_named(me)?;
+    check_node(&settings, me, committee.size())?;
     println!(
         "{}: member {me} of {}, of whom {} may fail",
         folder.join(SETTINGS).display(),
@@ -270,6 +322,35 @@ fn check(folder: &Path) -> Result<()> {
     for told in settings.warnings() {
         println!("warning: {told}");
     }
+    Ok(())
+}
+
+/// What the program says of the node's settings, where the node isn't a library.
+fn check_node(settings: &Settings, me: u32, members: u32) -> Result<()> {
+    if settings.library {
+        return Ok(());
+    }
+    let tool = settings.tool();
+    let room = std::env::temp_dir().join(format!("voumlisd-check-{}", std::process::id()));
+    fs::DirBuilder::new().mode(0o700).create(&room)?;
+    let asked = || -> Result<Output> {
+        let file = settings
+            .node
+            .write_beside(&room.join(RECORD), me, members)?;
+        let mut asked = process::Command::new(&tool);
+        let asked = asked.arg("settings").arg(file).stdin(Stdio::null());
+        asked
+            .output()
+            .with_context(|| format!("the program {}", tool.display()))
+    };
+    let said = asked();
+    fs::remove_dir_all(&room)?;
+    let said = said?;
+    ensure!(
+        said.status.success(),
+        "no node can be opened so: {}",
+        String::from_utf8_lossy(&said.stderr).trim()
+    );
     Ok(())
 }
 
@@ -302,6 +383,16 @@ fn reports(file: &Path) -> Result<Vec<SignedReport>> {
         );
     }
     Ok(all)
+}
+
+/// Whether audits are of what these nodes sign.
+fn audits_over(node: &NodeSettings) -> Result<()> {
+    ensure!(
+        node.base == BASE,
+        "these nodes sign over the base {:?}, and audits are over \"{BASE}\"",
+        node.base
+    );
+    Ok(())
 }
 
 fn judged(committee: &Committee, files: &[PathBuf], program: &Path) -> Result<ExitCode> {

@@ -3,7 +3,7 @@
 use crate::blocked::BlockList;
 use crate::http::{self, Routes, Told};
 use crate::links::{LinkParts, Links};
-use crate::settings::Settings;
+use crate::settings::{RECORD, Settings};
 use anyhow::{Context, Result, bail, ensure};
 use application::Application;
 use ring::rand::{SecureRandom, SystemRandom};
@@ -21,7 +21,7 @@ use voumlis_core::committee::SecretKey;
 use voumlis_core::engine::Engine;
 use voumlis_core::envelope::Sealer;
 use voumlis_core::inbox::Inbox;
-use voumlis_core::member::{Child, Member, Open};
+use voumlis_core::member::{Child, Member, NodeSettings, Open};
 use voumlis_core::metrics::{Metrics, Status};
 use voumlis_core::network::{Current, Network};
 use voumlis_core::reports::ReportLog;
@@ -85,35 +85,35 @@ fn lock(folder: &Path) -> Result<Lock> {
 
 /// How the record is opened.
 fn opening(settings: &Settings, folder: &Path, me: u32, members: u32) -> Result<Box<Open>> {
-    let record = folder.join("record");
+    let (record, node) = (folder.join(RECORD), settings.node.clone());
     if settings.library {
-        return library(record, me, members);
+        return library(record, me, members, node);
     }
-    let program = settings.program.clone();
+    let program = settings.tool();
     ensure!(
         program.exists(),
-        "there is no program {}: host/up builds one",
+        "there is no program {}: host/up builds one; `tool` of the settings names it where it isn't beside `program`",
         program.display()
     );
     Ok(Box::new(move || {
-        let (child, first) = Child::open(&program, &record, me, members)?;
+        let (child, first) = Child::open(&program, &record, me, members, &node)?;
         info!(process = child.id(), "the record is opened by a child");
         Ok((Box::new(child) as Box<dyn Member>, first))
     }))
 }
 
 #[cfg(feature = "library")]
-fn library(record: PathBuf, me: u32, members: u32) -> Result<Box<Open>> {
-    let (me, members) = (u16::try_from(me)?, u16::try_from(members)?);
+fn library(record: PathBuf, me: u32, members: u32, node: NodeSettings) -> Result<Box<Open>> {
     Ok(Box::new(move || {
-        let (node, first) = voumlis_core::member::Library::open(&record, me, members)?;
+        let opened = voumlis_core::member::Library::open(&record, me, members, &node);
+        let (node, first) = opened?;
         info!("the record is opened in this process");
         Ok((Box::new(node) as Box<dyn Member>, first))
     }))
 }
 
 #[cfg(not(feature = "library"))]
-fn library(_: PathBuf, _: u32, _: u32) -> Result<Box<Open>> {
+fn library(_: PathBuf, _: u32, _: u32, _: NodeSettings) -> Result<Box<Open>> {
     bail!("this host was built without the feature `library`")
 }
 
@@ -180,6 +180,7 @@ async fn work(folder: &Path, settings: Settings, service: Service) -> Result<()>
     let committee = Arc::new(settings.committee()?);
     let sealer = Sealer::new(committee.clone(), SecretKey::of_seed(*key.seed())?)?;
     let me = sealer.me;
+    settings.check_named(me)?;
     let metrics = Arc::new(Metrics::new()?);
     let status = Arc::new(Status::default());
     let inbox = Arc::new(Inbox::new(committee.size()));
@@ -243,7 +244,7 @@ async fn work(folder: &Path, settings: Settings, service: Service) -> Result<()>
         status,
         metrics,
         links: links.clone(),
-        record: folder.join("record"),
+        record: folder.join(RECORD),
         started: Instant::now(),
     };
     let http = bind(settings.http).await?;

@@ -1,21 +1,31 @@
 //! The settings of a member, and the list of the committee.
 
-use anyhow::{Context, Result, ensure};
+use anyhow::{Context, Result, bail, ensure};
 use serde::{Deserialize, Serialize};
 use std::fs;
 use std::net::SocketAddr;
 use std::path::{Path, PathBuf};
 use std::time::Duration;
 use tokio::sync::Semaphore;
+use toml::Value;
+use toml::value::Table;
 use voumlis_core::chain::ChainSettings;
 use voumlis_core::committee::{Committee, PublicKey};
 use voumlis_core::engine::EngineSettings;
 use voumlis_core::frame::LONGEST_FRAME;
 use voumlis_core::growth::REWRITTEN_FROM;
+use voumlis_core::member::NodeSettings;
 use voumlis_core::pace::{LONGEST_ROW, PaceSettings, SLOWEST};
+use voumlis_core::plain::BASE;
 
 /// The name of a member's settings in its folder.
 pub const SETTINGS: &str = "settings.toml";
+
+/// The name of a member's record in its folder; that of its second file has `.2` behind it.
+pub const RECORD: &str = "record";
+
+/// The name of the program that runs a node, beside the program `simplex` where it isn't named.
+const TOOL: &str = "simplex_tool";
 
 /// One member's place in the committee: the same in all settings.
 #[derive(Clone, Debug, Deserialize, Serialize)]
@@ -27,9 +37,12 @@ pub struct Place {
     pub address: SocketAddr,
 }
 
-/// The members in order. A file of settings is one too: what else it holds is passed over.
+/// The members in order, and how their nodes are set up. A file of settings is one too: what else it holds is passed over.
 #[derive(Clone, Debug, Deserialize, Serialize)]
 pub struct Members {
+    /// How the nodes are set up.
+    #[serde(default, skip_serializing_if = "NodeSettings::is_default")]
+    pub node: NodeSettings,
     /// The members, of whom the first has index 0.
     pub members: Vec<Place>,
 }
@@ -44,14 +57,23 @@ pub struct Settings {
     pub listen: SocketAddr,
     /// Where it answers HTTP: everybody who reaches this may read, and use the application.
     pub http: SocketAddr,
-    /// The program `simplex`, which is run as a child where the node isn't a library, and for audits.
+    /// The program `simplex`, for audits.
     pub program: PathBuf,
+    /// The program `simplex_tool`, which runs the node as a child where that isn't a library. Where it isn't named: beside `program`.
+    #[serde(default, skip_serializing_if = "Option::is_none")]
+    pub tool: Option<PathBuf>,
     /// Whether the node is the static library in this process; for this the host is built with the feature `library`.
     #[serde(default)]
     pub library: bool,
     /// Where the application answers, if it is one in another process: see `remote`.
     #[serde(default, skip_serializing_if = "Option::is_none")]
     pub application: Option<SocketAddr>,
+    /// How the node is set up. In a file it may be the path of a file of settings, as `simplex_tool settings` reads it, too.
+    #[serde(default, skip_serializing_if = "NodeSettings::is_default")]
+    pub node: NodeSettings,
+    /// Whose index the file of settings names, where the node is set up by one.
+    #[serde(skip)]
+    pub(crate) named: Option<u32>,
     /// What is bounded.
     #[serde(default)]
     pub limits: Limits,
@@ -75,7 +97,8 @@ pub struct Limits {
     pub snapshot_views: u64,
     /// The most bytes of the log of reports: then it is put aside, in place of the one that was before.
     pub report_bytes: u64,
-    /// The record is rewritten where it has doubled since it was opened or rewritten, and has so many bytes at least.
+    /// The record is rewritten where it has doubled since it was opened or rewritten, and has so many bytes at least, unless the node
+    /// does it of itself, by `node.rewrite-views`.
     pub record_bytes: u64,
     /// The most bytes that wait for one peer.
     pub queue_bytes: usize,
@@ -110,7 +133,7 @@ impl Default for Limits {
 #[derive(Clone, Debug, Deserialize, Serialize)]
 #[serde(default, deny_unknown_fields)]
 pub struct Times {
-    /// How long a leader without work waits before it has an empty block built: below the leader's deadline, a second.
+    /// How long a leader without work waits before it has an empty block built: below the leader's deadline, `node.leader-timeout`.
     pub idle: u64,
     /// How long a check waits for a block that is on its way, of the time that the node is told.
     pub patience: u64,
@@ -142,18 +165,16 @@ impl Default for Times {
 /// The fewest members of whom one may fail.
 const BEARS_A_FAULT: usize = 4;
 
-/// How long a node waits before it says again that it gives a view up, as the program `simplex` is set up.
-const RETRY: u64 = 5_000;
-
 /// The most of a time: a day.
 const LONGEST: u64 = 24 * 60 * 60 * 1000;
 
 impl Times {
     /// Whether the loops can wait so long.
-    fn check(&self) -> Result<()> {
+    fn check(&self, node: &NodeSettings) -> Result<()> {
         ensure!(
-            self.idle < 1000,
-            "times.idle has to be below 1000, at which the others give the leader up"
+            self.idle < node.leader_timeout,
+            "times.idle has to be below node.leader-timeout, {}, at which the others give the leader up",
+            node.leader_timeout
         );
         for (name, time) in [
             ("patience", self.patience),
@@ -260,9 +281,69 @@ fn public_key(digits: &str) -> Result<PublicKey> {
     Ok(key)
 }
 
-fn read<T: serde::de::DeserializeOwned>(path: &Path) -> Result<T> {
+/// What a file says, and whose index the file of settings names that it names itself, if it does.
+fn read<T: serde::de::DeserializeOwned>(path: &Path) -> Result<(T, Option<u32>)> {
     let text = fs::read_to_string(path).with_context(|| path.display().to_string())?;
-    toml::from_str(&text).with_context(|| path.display().to_string())
+    let said = match toml::from_str::<Table>(&text) {
+        Ok(table) if table.get("node").is_some_and(Value::is_str) => with_node(table, path),
+        _ => toml::from_str(&text)
+            .map(|it| (it, None))
+            .map_err(Into::into),
+    };
+    said.with_context(|| path.display().to_string())
+}
+
+/// What a file says that names a file of settings for the node. That one may also be one of its members, with what a host decides.
+fn with_node<T: serde::de::DeserializeOwned>(
+    mut table: Table,
+    path: &Path,
+) -> Result<(T, Option<u32>)> {
+    let named = table
+        .get("node")
+        .and_then(Value::as_str)
+        .unwrap_or_default();
+    let file = path.with_file_name(named);
+    let read = || -> Result<(Table, Option<u32>)> {
+        let mut node: Table = toml::from_str(&fs::read_to_string(&file)?)?;
+        let count = table.get("members").and_then(Value::as_array);
+        let count = count.map_or(0, Vec::len);
+        if let Some(members) = node.remove("members") {
+            let is_so = members.as_integer() == i64::try_from(count).ok();
+            ensure!(is_so, "members is {members}, and there are {count}");
+        }
+        if let Some(record) = node.remove("record") {
+            let is_so = record.as_str() == Some(RECORD);
+            ensure!(is_so, "record is {record}, and a host has \"{RECORD}\"");
+        }
+        let Some(member) = node.remove("member") else {
+            return Ok((node, None));
+        };
+        match member.as_integer().map(u32::try_from) {
+            Some(Ok(index)) => Ok((node, Some(index))),
+            _ => bail!("member is {member}, which is no index"),
+        }
+    };
+    let (node, index) = read().with_context(|| file.display().to_string())?;
+    table.insert("node".to_owned(), Value::Table(node));
+    Ok((Value::Table(table).try_into()?, index))
+}
+
+/// How nodes are set up that a file of settings is for, whichever member it names.
+///
+/// # Errors
+///
+/// Where it can't be read, or no host can have such nodes.
+pub fn node_of(file: &Path) -> Result<NodeSettings> {
+    let read = || -> Result<NodeSettings> {
+        let mut node: Table = toml::from_str(&fs::read_to_string(file)?)?;
+        for key in ["members", "member", "record"] {
+            node.remove(key);
+        }
+        let node: NodeSettings = Value::Table(node).try_into()?;
+        node.check()?;
+        Ok(node)
+    };
+    read().with_context(|| file.display().to_string())
 }
 
 impl Members {
@@ -272,7 +353,7 @@ impl Members {
     ///
     /// Where it can't be read, or names none.
     pub fn read(path: &Path) -> Result<Members> {
-        read(path)
+        Ok(read(path)?.0)
     }
 
     /// The committee of their keys.
@@ -281,13 +362,13 @@ impl Members {
     ///
     /// Where a key is none, or comes twice.
     pub fn committee(&self) -> Result<Committee> {
-        committee(&self.members)
+        committee(&self.members, &self.node)
     }
 }
 
-fn committee(members: &[Place]) -> Result<Committee> {
+fn committee(members: &[Place], node: &NodeSettings) -> Result<Committee> {
     let keys = members.iter().map(|place| public_key(&place.key));
-    Committee::new(keys.collect::<Result<_>>()?)
+    Committee::set_up(keys.collect::<Result<_>>()?, node)
 }
 
 impl Settings {
@@ -297,13 +378,36 @@ impl Settings {
     ///
     /// Where they can't be read, or ask for what can't be.
     pub fn read(folder: &Path) -> Result<Settings> {
-        let mut settings: Settings = read(&folder.join(SETTINGS))?;
+        let (mut settings, named): (Settings, _) = read(&folder.join(SETTINGS))?;
+        settings.named = named;
         settings.key = folder.join(&settings.key);
         settings.program = folder.join(&settings.program);
-        settings.times.check()?;
+        settings.tool = settings.tool.map(|tool| folder.join(tool));
+        settings.node.check()?;
+        settings.times.check(&settings.node)?;
         settings.pace.check()?;
         settings.limits.check()?;
         Ok(settings)
+    }
+
+    /// The program `simplex_tool`.
+    pub fn tool(&self) -> PathBuf {
+        let beside = || self.program.with_file_name(TOOL);
+        self.tool.clone().unwrap_or_else(beside)
+    }
+
+    /// Whether the file of settings that the node is set up by is one of this member.
+    ///
+    /// # Errors
+    ///
+    /// Where it names another.
+    pub fn check_named(&self, me: u32) -> Result<()> {
+        match self.named {
+            Some(named) if named != me => {
+                bail!("the node's file of settings is of member {named}, and this is member {me}")
+            }
+            _ => Ok(()),
+        }
     }
 
     /// What a member can work with, and its operator should know of.
@@ -321,9 +425,16 @@ impl Settings {
                     .to_owned(),
             );
         }
-        if self.times.reopen_after < RETRY {
+        let retry = self.node.retry_timeout;
+        if self.times.reopen_after < retry {
             told.push(format!(
-                "times.reopen_after is below the {RETRY} ms behind which a node says again that it gives a view up"
+                "times.reopen_after is below the {retry} ms behind which a node says again that it gives a view up, and asks again"
+            ));
+        }
+        if self.node.base != BASE {
+            told.push(format!(
+                "audits are over the base \"{BASE}\", so with node.base = {:?} they convict nobody",
+                self.node.base
             ));
         }
         told
@@ -345,7 +456,7 @@ impl Settings {
     ///
     /// Where a key is none, or comes twice.
     pub fn committee(&self) -> Result<Committee> {
-        committee(&self.members)
+        committee(&self.members, &self.node)
     }
 
     /// How the application's thread is set up.
@@ -369,6 +480,7 @@ impl Settings {
                 faster_after: self.pace.faster_after,
             },
             rewritten_from: self.limits.record_bytes,
+            term: self.node.term_length.into(),
         }
     }
 }
@@ -429,6 +541,11 @@ mod tests {
             ("limits", "peer_bytes", "[64e6, 1e-300]"),
             ("limits", "peer_asks", "[-1.0, 100.0]"),
             ("limits", "peer_asks", "[nan, inf]"),
+            ("node", "term-length", "0"),
+            ("node", "genesis", "\"01\""),
+            ("node", "leader-timout", "1"),
+            ("node", "leader-timeout", "50"),
+            ("node", "members", "1"),
         ] {
             let told = read_with(&format!("[{table}]\n{name} = {value}")).unwrap_err();
             assert!(told.contains(name), "{name} = {value}: {told}");
@@ -454,6 +571,49 @@ mod tests {
     }
 
     #[test]
+    fn a_node_is_set_up_by_a_table_or_by_a_file_of_settings() {
+        let node = |more: &str| read_with(more).map(|it| it.node);
+        assert!(node("").unwrap().is_default());
+        let table = node("[node]\nleader-timeout = 700\nrepair = \"once\"").unwrap();
+        assert_eq!(table.leader_timeout, 700);
+        assert_eq!(table.repair, voumlis_core::member::Repair::Once);
+
+        let folder = tempfile::tempdir().unwrap();
+        let file = folder.path().join("member.toml");
+        let by_file = |text: &str| {
+            fs::write(&file, text).unwrap();
+            read_with(&format!("node = \"{}\"", file.display()))
+        };
+        // Such a file may be a member's, as far as it is this one.
+        let whole = "members = 1\nmember = 0\nrecord = \"record\"\n";
+        let read = by_file(&format!("{whole}leader-timeout = 700\nrepair = \"once\"")).unwrap();
+        assert_eq!(read.node, table);
+        assert!(read.check_named(0).is_ok() && read.check_named(1).is_err());
+        assert!(by_file("").unwrap().check_named(1).is_ok());
+        for (text, named) in [
+            ("members = 2", "members"),
+            ("member = -1", "member"),
+            ("record = \"elsewhere\"", "record"),
+            ("leader-timout = 1", "leader-timout"),
+            ("leader-timeout = 50", "leader-timeout"),
+        ] {
+            let told = by_file(text).unwrap_err();
+            assert!(told.contains(named), "{text}: {told}");
+        }
+        fs::remove_file(&file).unwrap();
+        let told = read_with(&format!("node = \"{}\"", file.display())).unwrap_err();
+        assert!(told.contains("member.toml"), "{told}");
+    }
+
+    #[test]
+    fn a_member_of_before_settings_could_be_chosen_has_the_program_beside_the_other() {
+        let read = read_with("").unwrap();
+        assert_eq!(read.tool(), read.program.with_file_name("simplex_tool"));
+        let read = read_with("tool = \"/bin/other\"").unwrap();
+        assert_eq!(read.tool(), Path::new("/bin/other"));
+    }
+
+    #[test]
     fn a_committee_that_bears_no_fault_is_warned_of() {
         let told = |members, more| read_of(members, more).unwrap().warnings().join("\n");
         for members in 1..4 {
@@ -466,5 +626,13 @@ mod tests {
         }
         assert_eq!(told(4, ""), "");
         assert!(told(7, "[times]\nreopen_after = 4999").contains("times.reopen_after"));
+        assert_eq!(
+            told(
+                7,
+                "[times]\nreopen_after = 4999\n[node]\nretry-timeout = 4000"
+            ),
+            ""
+        );
+        assert!(told(7, "[node]\nbase = \"other\"").contains("convict nobody"));
     }
 }

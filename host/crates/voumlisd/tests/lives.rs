@@ -5,6 +5,7 @@ mod common;
 use common::{Committee, until};
 use std::os::unix::fs::PermissionsExt;
 use std::path::Path;
+use std::process::{Command, Stdio};
 use std::{fs, thread, time::Duration};
 
 #[test]
@@ -92,6 +93,7 @@ fn what_a_member_writes_its_owner_alone_may_read() {
         "blocks",
         "key",
         "lock",
+        "record.toml",
         "reports",
         "signatures",
         "snapshot",
@@ -154,16 +156,15 @@ fn a_record_is_opened_again_where_no_view_is_entered_for_long() {
 
 #[test]
 fn a_record_that_has_doubled_is_rewritten_and_what_was_final_stays_final() {
-    let mut committee = Committee::new(4, |settings| settings.limits.record_bytes = 4_096);
+    let mut committee = Committee::new(4, |settings| {
+        settings.limits.record_bytes = 4_096;
+        settings.node.rewrite_views = 0;
+    });
     committee.start_all();
-    // A file that a rewrite wrote begins with a head: then that has been done of both.
     until("each record is rewritten, and again", || {
-        let mut files = (0..4).flat_map(|member| {
-            let folder = committee.member(member);
-            ["record", "record.2"].map(|name| fs::read(folder.join(name)).unwrap_or_default())
-        });
-        let is_rewritten = |file: Vec<u8>| file.len() > 9 && file[0] == 2;
-        files.all(is_rewritten).then_some(())
+        (0..4)
+            .all(|member| is_rewritten_again(&committee, member))
+            .then_some(())
     });
     let there = committee.highest();
     committee.reach(&[0, 1, 2, 3], there + 4);
@@ -175,6 +176,155 @@ fn a_record_that_has_doubled_is_rewritten_and_what_was_final_stays_final() {
     committee.start_all();
     // A payload that differs from one seen before fails in `status`.
     committee.reach(&[0, 1, 2, 3], there + 8);
+}
+
+/// Whether both files of a member's record were written by a rewrite: then they begin with a head.
+fn is_rewritten_again(committee: &Committee, member: usize) -> bool {
+    let folder = committee.member(member);
+    let files = ["record", "record.2"].map(|name| fs::read(folder.join(name)).unwrap_or_default());
+    files.iter().all(|file| file.len() > 9 && file[0] == 2)
+}
+
+#[test]
+fn a_record_is_rewritten_by_its_node_and_no_new_life_begins() {
+    let mut committee = Committee::new(4, |settings| {
+        settings.limits.record_bytes = 1_024;
+        settings.node.rewrite_views = 8;
+    });
+    committee.start_all();
+    until("each record is rewritten, and again", || {
+        (0..4)
+            .all(|member| is_rewritten_again(&committee, member))
+            .then_some(())
+    });
+    let there = committee.highest();
+    committee.reach(&[0, 1, 2, 3], there + 4);
+    for member in 0..4 {
+        let stuck = committee.metric(member, "voumlis_stuck_total");
+        let openings = committee.metric(member, "voumlis_openings_total");
+        assert_eq!(openings, 1.0 + stuck);
+    }
+    (0..4).for_each(|member| committee.kill(member));
+    committee.start_all();
+    // A payload that differs from one seen before fails in `status`.
+    committee.reach(&[0, 1, 2, 3], there + 8);
+}
+
+#[test]
+fn a_committee_over_links_that_lose_a_third_gets_on_with_a_member_down_and_it_catches_up() {
+    let mut committee = Committee::new(4, |settings| {
+        // Nothing but the nodes' own asks and nullifies goes again.
+        settings.times.reopen_at_most = 24 * 60 * 60 * 1000;
+        settings.times.reopen_after = settings.times.reopen_at_most;
+        settings.pace.slowest = 1;
+        settings.node.certification_timeout = 1_500;
+        settings.node.retry_timeout = 1_600;
+        settings.node.skip_timeout = 2_000;
+        settings.node.stall_timeout = 4_000;
+    });
+    let binary = Path::new(env!("CARGO_BIN_EXE_voumlisd"));
+    let lossy = binary.with_file_name("examples").join("lossy");
+    (0..4).for_each(|member| committee.start_as(&lossy, member));
+    committee.reach(&[0, 1, 2, 3], 1);
+    committee.kill(3);
+    let there = committee.highest();
+    committee.reach(&[0, 1, 2], there + 12);
+    // Who was down comes back behind a gap of some terms.
+    committee.start_as(&lossy, 3);
+    let there = committee.highest();
+    committee.reach(&[3], there + 4);
+    for member in 0..4 {
+        assert_eq!(committee.metric(member, "voumlis_openings_total"), 1.0);
+        let status = committee.status(member).unwrap();
+        assert_eq!(status["blocked"].as_object().unwrap().len(), 0);
+    }
+}
+
+#[test]
+fn a_member_of_before_settings_could_be_chosen_goes_on() {
+    let mut committee = Committee::new(1, |_| {});
+    let folder = committee.member(0);
+    // What `simplex node` left, and settings that name nothing but that program.
+    let made = Command::new(common::program())
+        .arg("node")
+        .arg(folder.join("record"))
+        .args(["0", "1"])
+        .stdin(Stdio::null())
+        .output()
+        .unwrap();
+    assert!(made.status.success(), "{made:?}");
+    let beside = folder.join("simplex_tool");
+    std::os::unix::fs::symlink(common::tool(), &beside).unwrap();
+    let mut settings = voumlisd::Settings::read(&folder).unwrap();
+    settings.program = folder.join("simplex");
+    settings.tool = None;
+    settings.write(&folder).unwrap();
+    committee.start(0);
+    committee.reach(&[0], 3);
+    assert_eq!(committee.nodes(0), 1);
+    fs::remove_file(beside).unwrap();
+    assert!(committee.terminate(0).success());
+    committee.start(0);
+    assert!(!committee.ended(0).success());
+    let log = committee.log(0);
+    assert!(
+        log.contains("there is no program") && log.contains("simplex_tool"),
+        "{log}"
+    );
+}
+
+#[test]
+fn settings_that_no_node_can_be_opened_with_are_told_by_the_program() {
+    let mut committee = Committee::new(1, |settings| settings.node.skip_timeout = 3_000);
+    let folder = committee.member(0);
+    let checked = committee.run(&["check", folder.to_str().unwrap()]);
+    let said = String::from_utf8(checked.stderr).unwrap();
+    assert!(!checked.status.success(), "{said}");
+    assert!(said.contains("skip-timeout: SkipNotAboveRetry"), "{said}");
+    committee.start(0);
+    assert!(!committee.ended(0).success());
+    let log = committee.log(0);
+    assert!(log.contains("skip-timeout: SkipNotAboveRetry"), "{log}");
+}
+
+#[test]
+fn a_committee_is_made_of_a_file_of_settings_and_members_set_up_otherwise_are_strangers() {
+    let folder = tempfile::tempdir().unwrap();
+    let file = folder.path().join("node.toml");
+    fs::write(
+        &file,
+        "members = 4\nmember = 0\nterm-length = 3\nrepair-window = 64\n",
+    )
+    .unwrap();
+    let made = folder.path().join("made");
+    let committee = Committee::new(1, |_| {});
+    let (program, tool) = (common::program(), common::tool());
+    let words = [
+        "init",
+        "--program",
+        program.to_str().unwrap(),
+        "--tool",
+        tool.to_str().unwrap(),
+        "--node",
+        file.to_str().unwrap(),
+        made.to_str().unwrap(),
+    ];
+    let init = committee.run(&words);
+    assert!(init.status.success(), "{init:?}");
+    let of = |name: &str| voumlisd::settings::Members::read(&made.join(name)).unwrap();
+    let listed = of("committee.toml");
+    assert_eq!(
+        (listed.node.term_length, listed.node.repair_window),
+        (3, 64)
+    );
+    let hash = *listed.committee().unwrap().hash();
+    for member in 0..4 {
+        let own = of(&format!("member-{member}/settings.toml"));
+        assert_eq!(own.committee().unwrap().hash(), &hash);
+    }
+    let mut usual = listed.clone();
+    usual.node = Default::default();
+    assert_ne!(usual.committee().unwrap().hash(), &hash);
 }
 
 #[test]
@@ -252,6 +402,7 @@ fn members_with_the_node_as_a_library_agree_with_one_that_has_a_child() {
         // Member 0 has the program as a child.
         settings.library = settings.listen != settings.members[0].address;
         settings.limits.record_bytes = 4_096;
+        settings.node.rewrite_views = 0;
     });
     committee.start_all();
     committee.reach(&[0, 1, 2, 3], 8);

@@ -1,4 +1,4 @@
-use super::{Member, NotYet, Rewriting, record_bytes};
+use super::{Member, NodeSettings, NotYet, Rewriting, record_bytes};
 use crate::wire::{Event, Reply, Trouble};
 use anyhow::{Context, Result, anyhow, bail};
 use std::io::{Read, Write};
@@ -9,11 +9,13 @@ use std::thread;
 use std::time::{Duration, Instant};
 use tracing::warn;
 
-/// The program `simplex node` as a child process: one event on its input, one reply on its output. Where its input ends it rewrites the
-/// record.
+/// The program `simplex_tool member FILE` as a child process: one event on its input, one reply on its output. It rewrites the record where
+/// its input ends, and as often as FILE says.
 pub struct Child {
     process: std::process::Child,
     record: PathBuf,
+    /// Whether it rewrites the record of itself too.
+    rewrites: bool,
     input: Option<ChildStdin>,
     output: ChildStdout,
     /// What was read and is no whole reply yet.
@@ -36,21 +38,23 @@ const LOOK: Duration = Duration::from_millis(5);
 const PASSING: [&str; 2] = ["error: device", "error: memory"];
 
 impl Child {
-    /// Starts the program over this record, as `member` of `members`.
+    /// Starts the program over this record, as `member` of `members`, by a file of these settings that is written beside the record.
     ///
     /// # Errors
     ///
-    /// Where it can't be started, or doesn't open the record: [`NotYet`] where that may pass, as while another process has it.
+    /// Where the file can't be written, or the program not be started, or it doesn't open the record: [`NotYet`] where that may pass, as
+    /// while another process has it.
     pub fn open(
         program: &Path,
         record: &Path,
         member: u32,
         members: u32,
+        settings: &NodeSettings,
     ) -> Result<(Child, Reply)> {
+        let file = settings.write_beside(record, member, members)?;
         let mut process = Command::new(program)
-            .arg("node")
-            .arg(record)
-            .args([member.to_string(), members.to_string()])
+            .arg("member")
+            .arg(file)
             .stdin(Stdio::piped())
             .stdout(Stdio::piped())
             .stderr(Stdio::piped())
@@ -63,6 +67,7 @@ impl Child {
         let mut child = Child {
             process,
             record: record.to_owned(),
+            rewrites: settings.rewrite_views > 0,
             input,
             output,
             ahead: Vec::new(),
@@ -137,7 +142,11 @@ impl Member for Child {
 
     /// No word of the host's but the end of its input has the program do it.
     fn rewrite(&mut self) -> Result<Rewriting> {
-        Ok(Rewriting::AtItsEnd)
+        Ok(if self.rewrites {
+            Rewriting::OfItself
+        } else {
+            Rewriting::AtItsEnd
+        })
     }
 
     /// A machine that is busy may take its time. A child that doesn't end is killed: for its record that is a crash as any other.

@@ -1,6 +1,7 @@
 //! A network that only remembers, and keys, for tests of one member alone.
 #![allow(dead_code, reason = "each test uses a part of it")]
 
+use std::path::{Path, PathBuf};
 use std::sync::{Arc, Mutex};
 use std::thread;
 use std::time::{Duration, Instant};
@@ -8,6 +9,33 @@ use voumlis_core::committee::{Committee, SecretKey};
 use voumlis_core::envelope::Sealer;
 use voumlis_core::frame::Frame;
 use voumlis_core::network::{Letter, Network};
+
+/// A program: the one that this variable names, the one beside that of `VOUMLIS_PROGRAM`, or a proved one.
+fn named(variable: &str, name: &str) -> PathBuf {
+    if let Some(named) = std::env::var_os(variable) {
+        return named.into();
+    }
+    let simplex = std::env::var_os("VOUMLIS_PROGRAM").map(PathBuf::from);
+    let beside = simplex.map(|it| it.with_file_name(name));
+    let top = Path::new(env!("CARGO_MANIFEST_DIR")).join("../../..");
+    let proved = top.join("crates").join(name).join("out").join(name);
+    let found = beside.filter(|it| it.exists()).unwrap_or(proved);
+    assert!(
+        found.exists(),
+        "name a program {name} in {variable}: host/program {name} builds one, and prints its path"
+    );
+    found
+}
+
+/// The program `simplex`.
+pub fn simplex() -> PathBuf {
+    named("VOUMLIS_PROGRAM", "simplex")
+}
+
+/// The program `simplex_tool`, which runs nodes.
+pub fn tool() -> PathBuf {
+    named("VOUMLIS_TOOL", "simplex_tool")
+}
 
 /// Calls this for each frame that is sent.
 type Watch = Box<dyn Fn(&Frame) + Send + Sync>;

@@ -27,22 +27,35 @@ pub fn patience() -> Duration {
     Duration::from_secs(180).mul_f64((load / processors).max(1.0))
 }
 
-/// The program `simplex`.
+/// A program: the one that this variable names, the one beside that of `VOUMLIS_PROGRAM`, or a proved one.
 ///
 /// # Panics
 ///
 /// Where there is none: a test of members tests nothing without.
-pub fn program() -> PathBuf {
-    if let Some(named) = std::env::var_os("VOUMLIS_PROGRAM") {
+fn named(variable: &str, name: &str) -> PathBuf {
+    if let Some(named) = std::env::var_os(variable) {
         return named.into();
     }
+    let simplex = std::env::var_os("VOUMLIS_PROGRAM").map(PathBuf::from);
+    let beside = simplex.map(|it| it.with_file_name(name));
     let top = Path::new(env!("CARGO_MANIFEST_DIR")).join("../../..");
-    let proved = top.join("crates/simplex/out/simplex");
+    let proved = top.join("crates").join(name).join("out").join(name);
+    let found = beside.filter(|it| it.exists()).unwrap_or(proved);
     assert!(
-        proved.exists(),
-        "name a program simplex in VOUMLIS_PROGRAM: host/program builds one, and prints its path"
+        found.exists(),
+        "name a program {name} in {variable}: host/program {name} builds one, and prints its path"
     );
-    proved
+    found
+}
+
+/// The program `simplex`, for audits.
+pub fn program() -> PathBuf {
+    named("VOUMLIS_PROGRAM", "simplex")
+}
+
+/// The program `simplex_tool`, which runs nodes.
+pub fn tool() -> PathBuf {
+    named("VOUMLIS_TOOL", "simplex_tool")
 }
 
 /// Waits until this gives something.
@@ -86,6 +99,8 @@ impl Committee {
         let made = Command::new(env!("CARGO_BIN_EXE_voumlisd"))
             .args(["init", "--members", &members.to_string(), "--program"])
             .arg(program())
+            .arg("--tool")
+            .arg(tool())
             .arg(folder.path())
             .output()
             .unwrap();
@@ -237,17 +252,17 @@ impl Committee {
             .unwrap()
     }
 
-    /// The processes of nodes over this member's record.
+    /// The processes of nodes by the file of settings beside this member's record.
     pub fn nodes(&self, member: usize) -> usize {
-        let record = self.member(member).join("record");
-        let record = record.to_str().unwrap().to_owned();
+        let file = self.member(member).join("record.toml");
+        let file = file.to_str().unwrap().to_owned();
         let processes = fs::read_dir("/proc").unwrap().flatten();
         processes
             .filter_map(|process| fs::read(process.path().join("cmdline")).ok())
             .filter(|words| {
                 words
                     .split(|byte| *byte == 0)
-                    .any(|word| word == record.as_bytes())
+                    .any(|word| word == file.as_bytes())
             })
             .count()
     }
