@@ -223,7 +223,7 @@ static void test_set_node(void) {
     want(__LINE__, (uint32_t)found.place, VOUMLIS_RETENTION_ZERO);
     want(__LINE__, node.live, 0);
     settings.retention = 10;
-    settings.version = 2;
+    settings.version = VOUMLIS_SETTINGS_VERSION + 1;
     WANT(voumlis_node_open_with(&settings, 0, NULL, 0, &node, &found), VOUMLIS_VERSION);
     want(__LINE__, node.live, 0);
     WANT(voumlis_node_close(&node), VOUMLIS_ARGUMENT);
@@ -403,7 +403,7 @@ static void test_halves(void) {
     settings.retention = 0;
     WANT(voumlis_node_open_pair_with(&settings, 0, NULL, 0, NULL, 0, &node, &found), VOUMLIS_SETTINGS);
     want(__LINE__, (uint32_t)found.place, VOUMLIS_RETENTION_ZERO);
-    settings.version = 2;
+    settings.version = VOUMLIS_SETTINGS_VERSION + 1;
     WANT(voumlis_node_open_pair_with(&settings, 0, NULL, 0, NULL, 0, &node, &found), VOUMLIS_VERSION);
     want(__LINE__, node.live, 0);
 
