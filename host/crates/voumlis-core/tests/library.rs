@@ -235,13 +235,18 @@ mod there {
                 "child" => child(&record, 1, &settings),
                 _ => library(&record, 1, &settings),
             };
-            reach(&mut *node, &first, 40);
+            reach(&mut *node, &first, 45);
             assert_eq!(node.rewrite().unwrap(), Rewriting::OfItself);
             // What is behind the last reply is done before the next.
             node.step(&Event::Moment(1 << 40)).unwrap();
-            stored(&record)
+            let [first, second] = stored(&record);
+            node.close().unwrap();
+            let [first_closed, second_closed] = stored(&record);
+            [first, second, first_closed, second_closed]
         });
         assert_eq!(stored[0], stored[1]);
+        // Where it ends it is rewritten once more.
+        assert_ne!(stored[0][..2], stored[0][2..]);
         // A file that a rewrite wrote begins with a head.
         assert!(stored[0].iter().all(|file| file.len() > 9 && file[0] == 2));
     }

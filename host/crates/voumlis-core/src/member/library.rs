@@ -122,7 +122,12 @@ impl Member for Library {
         Ok(Rewriting::Done(self.node.rewrite()?))
     }
 
-    fn close(self: Box<Self>) -> Result<()> {
+    /// Where it rewrites the record of itself it does so here too, as the program does where its input ends: so lives that are shorter than
+    /// so many views don't let it grow.
+    fn close(mut self: Box<Self>) -> Result<()> {
+        if self.rewrite_views > 0 {
+            self.node.rewrite()?;
+        }
         match self.node.close() {
             Ending::Closed => Ok(()),
             other => bail!("the node ended: {other:?}"),
